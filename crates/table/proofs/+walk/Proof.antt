@@ -1,0 +1,488 @@
+use Rattle.table.proofs.Walking.{walks-end, walks-own, deeper, walks-leaf, walks-one, walks-first, walks-b, within-b, walks-two, walks-second, walks-c, within-c, walks-three}
+use borrow.Author.Needs.{needs}
+use native.Mathlib.Omega.{arith}
+use Prim.Native.Nat.{ℕ, _<_, _-_}
+use borrow.Fn.Kinds.{In}
+use borrow.Fn.PlainCycle.{Measures, is, falls, and}
+use Rattle.table.proofs.walk.Reads as walk
+use Rattle.table.proofs.walk.Kinds as walk-kinds
+use Rattle.table.proofs.+walk.Lts-walk as walk-lts
+use Rattle.table.proofs.number.Reads as number-reads
+use Rattle.table.proofs.shape_at.Reads as shape-at-reads
+use Rattle.table.proofs.word_b.Reads as word-b-reads
+use Rattle.table.proofs.word_c.Reads as word-c-reads
+use Rattle.table.proofs.+walk.{statement}
+use Rattle.table.proofs.+walk.Tie.{close}
+
+abbrev μ-walk : Measures 1 walk-kinds.ps ℕ
+μ-walk κs a = a .1 .0 .nodes - a .1 .1 .1 .0
+
+abbrev walk-at : ℕ → In 1 walk-kinds.ps
+walk-at t = and 1 walk-kinds.ps (is 1 walk-kinds.ps μ-walk t) walk.Pre
+
+abbrev walk-below : ℕ → In 1 walk-kinds.ps
+walk-below t = and 1 walk-kinds.ps (falls 1 walk-kinds.ps _<_ μ-walk t) walk.Pre
+
+-- src/lib.rt:280:9
+walk-returns : (t : ℕ) → walk-lts.Need-returns (
+  shape-at-reads.Asked,
+  shape-at-reads.Learnt,
+  number-reads.Asked,
+  number-reads.Learnt,
+  walk-below t,
+  walk.Post,
+  word-b-reads.Asked,
+  word-b-reads.Learnt,
+  word-c-reads.Asked,
+  word-c-reads.Learnt,
+) (walk-at t) walk.Post
+walk-returns t c = walks-end _ _ _ _ _ (c .if1 .taken)
+
+-- src/lib.rt:282:9
+walk-shape-at-requires : (t : ℕ) → walk-lts.Need-shape-at-requires (
+  shape-at-reads.Asked,
+  shape-at-reads.Learnt,
+  number-reads.Asked,
+  number-reads.Learnt,
+  walk-below t,
+  walk.Post,
+  word-b-reads.Asked,
+  word-b-reads.Learnt,
+  word-c-reads.Asked,
+  word-c-reads.Learnt,
+) (walk-at t) walk.Post
+walk-shape-at-requires t c κs = omega arith
+
+-- src/lib.rt:283:9
+walk-number-requires : (t : ℕ) → walk-lts.Need-number-requires (
+  shape-at-reads.Asked,
+  shape-at-reads.Learnt,
+  number-reads.Asked,
+  number-reads.Learnt,
+  walk-below t,
+  walk.Post,
+  word-b-reads.Asked,
+  word-b-reads.Learnt,
+  word-c-reads.Asked,
+  word-c-reads.Learnt,
+) (walk-at t) walk.Post
+walk-number-requires t c κs = search needs
+
+-- src/lib.rt:285:9
+walk-returns-2 : (t : ℕ) → walk-lts.Need-returns-2 (
+  shape-at-reads.Asked,
+  shape-at-reads.Learnt,
+  number-reads.Asked,
+  number-reads.Learnt,
+  walk-below t,
+  walk.Post,
+  word-b-reads.Asked,
+  word-b-reads.Learnt,
+  word-c-reads.Asked,
+  word-c-reads.Learnt,
+) (walk-at t) walk.Post
+walk-returns-2 t c = walks-own _ _ _ _ _ (c .before .before .before .if1 .left) _ (c .before .before .shape-at .ensures) _ (c .before .number .ensures) (c .if2 .taken)
+
+-- src/lib.rt:289:28
+walk-add-t17 : (t : ℕ) → walk-lts.Need-add-t17 (
+  shape-at-reads.Asked,
+  shape-at-reads.Learnt,
+  number-reads.Asked,
+  number-reads.Learnt,
+  walk-below t,
+  walk.Post,
+  word-b-reads.Asked,
+  word-b-reads.Learnt,
+  word-c-reads.Asked,
+  word-c-reads.Learnt,
+) (walk-at t) walk.Post
+walk-add-t17 t c = search needs
+
+-- src/lib.rt:289:9
+walk-returns-3 : (t : ℕ) → walk-lts.Need-returns-3 (
+  shape-at-reads.Asked,
+  shape-at-reads.Learnt,
+  number-reads.Asked,
+  number-reads.Learnt,
+  walk-below t,
+  walk.Post,
+  word-b-reads.Asked,
+  word-b-reads.Learnt,
+  word-c-reads.Asked,
+  word-c-reads.Learnt,
+) (walk-at t) walk.Post
+walk-returns-3 t c = walks-leaf _ _ _ _ _ (c .before .before .before .before .if1 .left) _ (c .before .before .before .shape-at .ensures) _ (c .before .before .number .ensures) (c .before .if2 .left) (c .if3 .taken)
+
+-- src/lib.rt:291:35
+walk-add-walk : (t : ℕ) → walk-lts.Need-add-walk (
+  shape-at-reads.Asked,
+  shape-at-reads.Learnt,
+  number-reads.Asked,
+  number-reads.Learnt,
+  walk-below t,
+  walk.Post,
+  word-b-reads.Asked,
+  word-b-reads.Learnt,
+  word-c-reads.Asked,
+  word-c-reads.Learnt,
+) (walk-at t) walk.Post
+walk-add-walk t c = search needs
+
+-- src/lib.rt:291:46
+walk-add-walk-2 : (t : ℕ) → walk-lts.Need-add-walk-2 (
+  shape-at-reads.Asked,
+  shape-at-reads.Learnt,
+  number-reads.Asked,
+  number-reads.Learnt,
+  walk-below t,
+  walk.Post,
+  word-b-reads.Asked,
+  word-b-reads.Learnt,
+  word-c-reads.Asked,
+  word-c-reads.Learnt,
+) (walk-at t) walk.Post
+walk-add-walk-2 t c = search needs
+
+-- src/lib.rt:291:9
+walk-walk-requires : (t : ℕ) → walk-lts.Need-walk-requires (
+  shape-at-reads.Asked,
+  shape-at-reads.Learnt,
+  number-reads.Asked,
+  number-reads.Learnt,
+  walk-below t,
+  walk.Post,
+  word-b-reads.Asked,
+  word-b-reads.Learnt,
+  word-c-reads.Asked,
+  word-c-reads.Learnt,
+) (walk-at t) walk.Post
+walk-walk-requires t c κs = omega (arith, c .before .before .before .before .before .before .before .pre, deeper (c .before .before .before .before .before .before .before .args .words .now) (c .before .before .before .before .before .before .before .args .body) (c .before .before .before .before .before .before .before .args .level) (c .before .before .before .before .before .before .before .args .p) (c .before .before .before .before .before .before .before .args .k) (c .before .before .before .before .if1 .left) _ (c .before .before .before .shape-at .ensures) _ (c .before .before .number .ensures) (c .before .if2 .left) (c .before .before .before .before .before .before .before .pre .1 .1))
+
+-- src/lib.rt:293:9
+walk-returns-4 : (t : ℕ) → walk-lts.Need-returns-4 (
+  shape-at-reads.Asked,
+  shape-at-reads.Learnt,
+  number-reads.Asked,
+  number-reads.Learnt,
+  walk-below t,
+  walk.Post,
+  word-b-reads.Asked,
+  word-b-reads.Learnt,
+  word-c-reads.Asked,
+  word-c-reads.Learnt,
+) (walk-at t) walk.Post
+walk-returns-4 t c = walks-one _ _ _ _ _ (c .before .before .before .before .before .before .if1 .left) _ (c .before .before .before .before .before .shape-at .ensures) _ (c .before .before .before .before .number .ensures) (c .before .before .before .if2 .left) _ (c .before .walk .ensures) (c .if4 .taken)
+
+-- src/lib.rt:295:21
+walk-enum-known-first : (t : ℕ) → walk-lts.Need-enum-known-first (
+  shape-at-reads.Asked,
+  shape-at-reads.Learnt,
+  number-reads.Asked,
+  number-reads.Learnt,
+  walk-below t,
+  walk.Post,
+  word-b-reads.Asked,
+  word-b-reads.Learnt,
+  word-c-reads.Asked,
+  word-c-reads.Learnt,
+) (walk-at t) walk.Post
+walk-enum-known-first t c = search needs
+
+-- src/lib.rt:296:9
+walk-enum-told : (t : ℕ) → walk-lts.Need-enum-told (
+  shape-at-reads.Asked,
+  shape-at-reads.Learnt,
+  number-reads.Asked,
+  number-reads.Learnt,
+  walk-below t,
+  walk.Post,
+  word-b-reads.Asked,
+  word-b-reads.Learnt,
+  word-c-reads.Asked,
+  word-c-reads.Learnt,
+) (walk-at t) walk.Post
+walk-enum-told t c = search needs
+
+-- src/lib.rt:296:9
+walk-returns-5 : (t : ℕ) → walk-lts.Need-returns-5 (
+  shape-at-reads.Asked,
+  shape-at-reads.Learnt,
+  number-reads.Asked,
+  number-reads.Learnt,
+  walk-below t,
+  walk.Post,
+  word-b-reads.Asked,
+  word-b-reads.Learnt,
+  word-c-reads.Asked,
+  word-c-reads.Learnt,
+) (walk-at t) walk.Post
+walk-returns-5 t c = walks-first _ _ _ _ _ (c .before .before .before .before .before .before .before .before .if1 .left) _ (c .before .before .before .before .before .before .before .shape-at .ensures) _ (c .before .before .before .before .before .before .number .ensures) (c .before .before .before .before .before .if2 .left) _ (c .before .before .before .walk .ensures) (c .before .before .before .before .if3 .left) (c .before .before .if4 .left) _ _ (c .enum-told .given .1)
+
+-- src/lib.rt:298:9
+walk-word-b-requires : (t : ℕ) → walk-lts.Need-word-b-requires (
+  shape-at-reads.Asked,
+  shape-at-reads.Learnt,
+  number-reads.Asked,
+  number-reads.Learnt,
+  walk-below t,
+  walk.Post,
+  word-b-reads.Asked,
+  word-b-reads.Learnt,
+  word-c-reads.Asked,
+  word-c-reads.Learnt,
+) (walk-at t) walk.Post
+walk-word-b-requires t c κs = omega arith
+
+-- src/lib.rt:300:9
+walk-returns-6 : (t : ℕ) → walk-lts.Need-returns-6 (
+  shape-at-reads.Asked,
+  shape-at-reads.Learnt,
+  number-reads.Asked,
+  number-reads.Learnt,
+  walk-below t,
+  walk.Post,
+  word-b-reads.Asked,
+  word-b-reads.Learnt,
+  word-c-reads.Asked,
+  word-c-reads.Learnt,
+) (walk-at t) walk.Post
+walk-returns-6 t c = walks-b _ _ _ _ _ (c .before .before .before .before .before .before .before .before .before .before .before .if1 .left) _ (c .before .before .before .before .before .before .before .before .before .before .shape-at .ensures) _ (c .before .before .before .before .before .before .before .before .before .number .ensures) (c .before .before .before .before .before .before .before .before .if2 .left) _ (c .before .before .before .before .before .before .walk .ensures) (c .before .before .before .before .before .before .before .if3 .left) (c .before .before .before .before .before .if4 .left) _ _ (c .before .word-b .ensures) (c .before .before .before .first .given .1) (c .if5 .taken)
+
+-- src/lib.rt:303:34
+walk-add-walk-3 : (t : ℕ) → walk-lts.Need-add-walk-3 (
+  shape-at-reads.Asked,
+  shape-at-reads.Learnt,
+  number-reads.Asked,
+  number-reads.Learnt,
+  walk-below t,
+  walk.Post,
+  word-b-reads.Asked,
+  word-b-reads.Learnt,
+  word-c-reads.Asked,
+  word-c-reads.Learnt,
+) (walk-at t) walk.Post
+walk-add-walk-3 t c = search needs
+
+-- src/lib.rt:303:9
+walk-walk-requires-2 : (t : ℕ) → walk-lts.Need-walk-requires-2 (
+  shape-at-reads.Asked,
+  shape-at-reads.Learnt,
+  number-reads.Asked,
+  number-reads.Learnt,
+  walk-below t,
+  walk.Post,
+  word-b-reads.Asked,
+  word-b-reads.Learnt,
+  word-c-reads.Asked,
+  word-c-reads.Learnt,
+) (walk-at t) walk.Post
+walk-walk-requires-2 t c κs = omega (arith, c .before .before .before .before .before .before .before .before .before .before .before .before .before .before .before .pre, deeper (c .before .before .before .before .before .before .before .before .before .before .before .before .before .before .before .args .words .now) (c .before .before .before .before .before .before .before .before .before .before .before .before .before .before .before .args .body) (c .before .before .before .before .before .before .before .before .before .before .before .before .before .before .before .args .level) (c .before .before .before .before .before .before .before .before .before .before .before .before .before .before .before .args .p) (c .before .before .before .before .before .before .before .before .before .before .before .before .before .before .before .args .k) (c .before .before .before .before .before .before .before .before .before .before .before .before .if1 .left) _ (c .before .before .before .before .before .before .before .before .before .before .before .shape-at .ensures) _ (c .before .before .before .before .before .before .before .before .before .before .number .ensures) (c .before .before .before .before .before .before .before .before .before .if2 .left) (c .before .before .before .before .before .before .before .before .before .before .before .before .before .before .before .pre .1 .1), within-b (c .before .before .before .before .before .before .before .before .before .before .before .before .before .before .before .args .words .now) (c .before .before .before .before .before .before .before .before .before .before .before .before .before .before .before .args .body) (c .before .before .before .before .before .before .before .before .before .before .before .before .before .before .before .args .level) (c .before .before .before .before .before .before .before .before .before .before .before .before .before .before .before .args .p) (c .before .before .before .before .before .before .before .before .before .before .before .before .before .before .before .args .k) (c .before .before .before .before .before .before .before .before .before .before .before .before .if1 .left) _ (c .before .before .before .before .before .before .before .before .before .before .before .shape-at .ensures) _ (c .before .before .before .before .before .before .before .before .before .before .number .ensures) (c .before .before .before .before .before .before .before .before .before .if2 .left) _ (c .before .before .before .before .before .before .before .walk .ensures) (c .before .before .before .before .before .before .before .before .if3 .left) (c .before .before .before .before .before .before .if4 .left) _ _ (c .before .before .word-b .ensures) (c .before .before .before .before .first .given .1) (c .before .if5 .left))
+
+-- src/lib.rt:303:9
+walk-returns-7 : (t : ℕ) → walk-lts.Need-returns-7 (
+  shape-at-reads.Asked,
+  shape-at-reads.Learnt,
+  number-reads.Asked,
+  number-reads.Learnt,
+  walk-below t,
+  walk.Post,
+  word-b-reads.Asked,
+  word-b-reads.Learnt,
+  word-c-reads.Asked,
+  word-c-reads.Learnt,
+) (walk-at t) walk.Post
+walk-returns-7 t c = walks-two _ _ _ _ _ (c .before .before .before .before .before .before .before .before .before .before .before .before .before .if1 .left) _ (c .before .before .before .before .before .before .before .before .before .before .before .before .shape-at .ensures) _ (c .before .before .before .before .before .before .before .before .before .before .before .number .ensures) (c .before .before .before .before .before .before .before .before .before .before .if2 .left) _ (c .before .before .before .before .before .before .before .before .walk .ensures) (c .before .before .before .before .before .before .before .before .before .if3 .left) (c .before .before .before .before .before .before .before .if4 .left) _ _ (c .before .before .before .word-b .ensures) (c .before .before .before .before .before .first .given .1) (c .before .before .if5 .left) (c .before .if6 .taken) _ (c .walk2 .ensures)
+
+-- src/lib.rt:305:36
+walk-add-walk-4 : (t : ℕ) → walk-lts.Need-add-walk-4 (
+  shape-at-reads.Asked,
+  shape-at-reads.Learnt,
+  number-reads.Asked,
+  number-reads.Learnt,
+  walk-below t,
+  walk.Post,
+  word-b-reads.Asked,
+  word-b-reads.Learnt,
+  word-c-reads.Asked,
+  word-c-reads.Learnt,
+) (walk-at t) walk.Post
+walk-add-walk-4 t c = search needs
+
+-- src/lib.rt:305:9
+walk-walk-requires-3 : (t : ℕ) → walk-lts.Need-walk-requires-3 (
+  shape-at-reads.Asked,
+  shape-at-reads.Learnt,
+  number-reads.Asked,
+  number-reads.Learnt,
+  walk-below t,
+  walk.Post,
+  word-b-reads.Asked,
+  word-b-reads.Learnt,
+  word-c-reads.Asked,
+  word-c-reads.Learnt,
+) (walk-at t) walk.Post
+walk-walk-requires-3 t c κs = omega (arith, c .before .before .before .before .before .before .before .before .before .before .before .before .before .before .before .pre, deeper (c .before .before .before .before .before .before .before .before .before .before .before .before .before .before .before .args .words .now) (c .before .before .before .before .before .before .before .before .before .before .before .before .before .before .before .args .body) (c .before .before .before .before .before .before .before .before .before .before .before .before .before .before .before .args .level) (c .before .before .before .before .before .before .before .before .before .before .before .before .before .before .before .args .p) (c .before .before .before .before .before .before .before .before .before .before .before .before .before .before .before .args .k) (c .before .before .before .before .before .before .before .before .before .before .before .before .if1 .left) _ (c .before .before .before .before .before .before .before .before .before .before .before .shape-at .ensures) _ (c .before .before .before .before .before .before .before .before .before .before .number .ensures) (c .before .before .before .before .before .before .before .before .before .if2 .left) (c .before .before .before .before .before .before .before .before .before .before .before .before .before .before .before .pre .1 .1), within-b (c .before .before .before .before .before .before .before .before .before .before .before .before .before .before .before .args .words .now) (c .before .before .before .before .before .before .before .before .before .before .before .before .before .before .before .args .body) (c .before .before .before .before .before .before .before .before .before .before .before .before .before .before .before .args .level) (c .before .before .before .before .before .before .before .before .before .before .before .before .before .before .before .args .p) (c .before .before .before .before .before .before .before .before .before .before .before .before .before .before .before .args .k) (c .before .before .before .before .before .before .before .before .before .before .before .before .if1 .left) _ (c .before .before .before .before .before .before .before .before .before .before .before .shape-at .ensures) _ (c .before .before .before .before .before .before .before .before .before .before .number .ensures) (c .before .before .before .before .before .before .before .before .before .if2 .left) _ (c .before .before .before .before .before .before .before .walk .ensures) (c .before .before .before .before .before .before .before .before .if3 .left) (c .before .before .before .before .before .before .if4 .left) _ _ (c .before .before .word-b .ensures) (c .before .before .before .before .first .given .1) (c .before .if5 .left))
+
+-- src/lib.rt:306:21
+walk-enum-known-second : (t : ℕ) → walk-lts.Need-enum-known-second (
+  shape-at-reads.Asked,
+  shape-at-reads.Learnt,
+  number-reads.Asked,
+  number-reads.Learnt,
+  walk-below t,
+  walk.Post,
+  word-b-reads.Asked,
+  word-b-reads.Learnt,
+  word-c-reads.Asked,
+  word-c-reads.Learnt,
+) (walk-at t) walk.Post
+walk-enum-known-second t c = search needs
+
+-- src/lib.rt:307:9
+walk-enum-told-2 : (t : ℕ) → walk-lts.Need-enum-told-2 (
+  shape-at-reads.Asked,
+  shape-at-reads.Learnt,
+  number-reads.Asked,
+  number-reads.Learnt,
+  walk-below t,
+  walk.Post,
+  word-b-reads.Asked,
+  word-b-reads.Learnt,
+  word-c-reads.Asked,
+  word-c-reads.Learnt,
+) (walk-at t) walk.Post
+walk-enum-told-2 t c = search needs
+
+-- src/lib.rt:307:9
+walk-returns-8 : (t : ℕ) → walk-lts.Need-returns-8 (
+  shape-at-reads.Asked,
+  shape-at-reads.Learnt,
+  number-reads.Asked,
+  number-reads.Learnt,
+  walk-below t,
+  walk.Post,
+  word-b-reads.Asked,
+  word-b-reads.Learnt,
+  word-c-reads.Asked,
+  word-c-reads.Learnt,
+) (walk-at t) walk.Post
+walk-returns-8 t c = walks-second _ _ _ _ _ (c .before .before .before .before .before .before .before .before .before .before .before .before .before .before .before .if1 .left) _ (c .before .before .before .before .before .before .before .before .before .before .before .before .before .before .shape-at .ensures) _ (c .before .before .before .before .before .before .before .before .before .before .before .before .before .number .ensures) (c .before .before .before .before .before .before .before .before .before .before .before .before .if2 .left) _ (c .before .before .before .before .before .before .before .before .before .before .walk .ensures) (c .before .before .before .before .before .before .before .before .before .before .before .if3 .left) (c .before .before .before .before .before .before .before .before .before .if4 .left) _ _ (c .before .before .before .before .before .word-b .ensures) (c .before .before .before .before .before .before .before .first .given .1) (c .before .before .before .before .if5 .left) (c .before .before .before .if6 .left) _ (c .before .before .walk3 .ensures) _ _ (c .enum-told2 .given .1)
+
+-- src/lib.rt:309:9
+walk-word-c-requires : (t : ℕ) → walk-lts.Need-word-c-requires (
+  shape-at-reads.Asked,
+  shape-at-reads.Learnt,
+  number-reads.Asked,
+  number-reads.Learnt,
+  walk-below t,
+  walk.Post,
+  word-b-reads.Asked,
+  word-b-reads.Learnt,
+  word-c-reads.Asked,
+  word-c-reads.Learnt,
+) (walk-at t) walk.Post
+walk-word-c-requires t c κs = omega arith
+
+-- src/lib.rt:311:9
+walk-returns-9 : (t : ℕ) → walk-lts.Need-returns-9 (
+  shape-at-reads.Asked,
+  shape-at-reads.Learnt,
+  number-reads.Asked,
+  number-reads.Learnt,
+  walk-below t,
+  walk.Post,
+  word-b-reads.Asked,
+  word-b-reads.Learnt,
+  word-c-reads.Asked,
+  word-c-reads.Learnt,
+) (walk-at t) walk.Post
+walk-returns-9 t c = walks-c _ _ _ _ _ (c .before .before .before .before .before .before .before .before .before .before .before .before .before .before .before .before .before .before .if1 .left) _ (c .before .before .before .before .before .before .before .before .before .before .before .before .before .before .before .before .before .shape-at .ensures) _ (c .before .before .before .before .before .before .before .before .before .before .before .before .before .before .before .before .number .ensures) (c .before .before .before .before .before .before .before .before .before .before .before .before .before .before .before .if2 .left) _ (c .before .before .before .before .before .before .before .before .before .before .before .before .before .walk .ensures) (c .before .before .before .before .before .before .before .before .before .before .before .before .before .before .if3 .left) (c .before .before .before .before .before .before .before .before .before .before .before .before .if4 .left) _ _ (c .before .before .before .before .before .before .before .before .word-b .ensures) (c .before .before .before .before .before .before .before .before .before .before .first .given .1) (c .before .before .before .before .before .before .before .if5 .left) (c .before .before .before .before .before .before .if6 .left) _ (c .before .before .before .before .before .walk3 .ensures) _ _ (c .before .word-c .ensures) (c .before .before .before .second .given .1) (c .if7 .taken)
+
+-- src/lib.rt:313:23
+walk-add-walk-5 : (t : ℕ) → walk-lts.Need-add-walk-5 (
+  shape-at-reads.Asked,
+  shape-at-reads.Learnt,
+  number-reads.Asked,
+  number-reads.Learnt,
+  walk-below t,
+  walk.Post,
+  word-b-reads.Asked,
+  word-b-reads.Learnt,
+  word-c-reads.Asked,
+  word-c-reads.Learnt,
+) (walk-at t) walk.Post
+walk-add-walk-5 t c = omega (arith, c .before .before .before .before .before .before .before .before .before .before .before .before .before .before .before .before .before .before .before .before .before .pre)
+
+-- src/lib.rt:313:5
+walk-walk-requires-4 : (t : ℕ) → walk-lts.Need-walk-requires-4 (
+  shape-at-reads.Asked,
+  shape-at-reads.Learnt,
+  number-reads.Asked,
+  number-reads.Learnt,
+  walk-below t,
+  walk.Post,
+  word-b-reads.Asked,
+  word-b-reads.Learnt,
+  word-c-reads.Asked,
+  word-c-reads.Learnt,
+) (walk-at t) walk.Post
+walk-walk-requires-4 t c κs = omega (arith, c .before .before .before .before .before .before .before .before .before .before .before .before .before .before .before .before .before .before .before .before .before .pre, deeper (c .before .before .before .before .before .before .before .before .before .before .before .before .before .before .before .before .before .before .before .before .before .args .words .now) (c .before .before .before .before .before .before .before .before .before .before .before .before .before .before .before .before .before .before .before .before .before .args .body) (c .before .before .before .before .before .before .before .before .before .before .before .before .before .before .before .before .before .before .before .before .before .args .level) (c .before .before .before .before .before .before .before .before .before .before .before .before .before .before .before .before .before .before .before .before .before .args .p) (c .before .before .before .before .before .before .before .before .before .before .before .before .before .before .before .before .before .before .before .before .before .args .k) (c .before .before .before .before .before .before .before .before .before .before .before .before .before .before .before .before .before .before .if1 .left) _ (c .before .before .before .before .before .before .before .before .before .before .before .before .before .before .before .before .before .shape-at .ensures) _ (c .before .before .before .before .before .before .before .before .before .before .before .before .before .before .before .before .number .ensures) (c .before .before .before .before .before .before .before .before .before .before .before .before .before .before .before .if2 .left) (c .before .before .before .before .before .before .before .before .before .before .before .before .before .before .before .before .before .before .before .before .before .pre .1 .1), within-c (c .before .before .before .before .before .before .before .before .before .before .before .before .before .before .before .before .before .before .before .before .before .args .words .now) (c .before .before .before .before .before .before .before .before .before .before .before .before .before .before .before .before .before .before .before .before .before .args .body) (c .before .before .before .before .before .before .before .before .before .before .before .before .before .before .before .before .before .before .before .before .before .args .level) (c .before .before .before .before .before .before .before .before .before .before .before .before .before .before .before .before .before .before .before .before .before .args .p) (c .before .before .before .before .before .before .before .before .before .before .before .before .before .before .before .before .before .before .before .before .before .args .k) (c .before .before .before .before .before .before .before .before .before .before .before .before .before .before .before .before .before .before .if1 .left) _ (c .before .before .before .before .before .before .before .before .before .before .before .before .before .before .before .before .before .shape-at .ensures) _ (c .before .before .before .before .before .before .before .before .before .before .before .before .before .before .before .before .number .ensures) (c .before .before .before .before .before .before .before .before .before .before .before .before .before .before .before .if2 .left) _ (c .before .before .before .before .before .before .before .before .before .before .before .before .before .walk .ensures) (c .before .before .before .before .before .before .before .before .before .before .before .before .before .before .if3 .left) (c .before .before .before .before .before .before .before .before .before .before .before .before .if4 .left) _ _ (c .before .before .before .before .before .before .before .before .word-b .ensures) (c .before .before .before .before .before .before .before .before .before .before .first .given .1) (c .before .before .before .before .before .before .before .if5 .left) (c .before .before .before .before .before .before .if6 .left) _ (c .before .before .before .before .before .walk3 .ensures) _ _ (c .before .word-c .ensures) (c .before .before .before .second .given .1) (c .if7 .left))
+
+-- src/lib.rt:274:1
+walk-returns-10 : (t : ℕ) → walk-lts.Need-returns-10 (
+  shape-at-reads.Asked,
+  shape-at-reads.Learnt,
+  number-reads.Asked,
+  number-reads.Learnt,
+  walk-below t,
+  walk.Post,
+  word-b-reads.Asked,
+  word-b-reads.Learnt,
+  word-c-reads.Asked,
+  word-c-reads.Learnt,
+) (walk-at t) walk.Post
+walk-returns-10 t c = walks-three _ _ _ _ _ (c .before .before .before .before .before .before .before .before .before .before .before .before .before .before .before .before .before .before .before .if1 .left) _ (c .before .before .before .before .before .before .before .before .before .before .before .before .before .before .before .before .before .before .shape-at .ensures) _ (c .before .before .before .before .before .before .before .before .before .before .before .before .before .before .before .before .before .number .ensures) (c .before .before .before .before .before .before .before .before .before .before .before .before .before .before .before .before .if2 .left) _ (c .before .before .before .before .before .before .before .before .before .before .before .before .before .before .walk .ensures) (c .before .before .before .before .before .before .before .before .before .before .before .before .before .before .before .if3 .left) (c .before .before .before .before .before .before .before .before .before .before .before .before .before .if4 .left) _ _ (c .before .before .before .before .before .before .before .before .before .word-b .ensures) (c .before .before .before .before .before .before .before .before .before .before .before .first .given .1) (c .before .before .before .before .before .before .before .before .if5 .left) (c .before .before .before .before .before .before .before .if6 .left) _ (c .before .before .before .before .before .before .walk3 .ensures) _ _ (c .before .before .word-c .ensures) (c .before .before .before .before .second .given .1) (c .before .if7 .left) _ (c .walk4 .ensures)
+
+pub +walk-spec : {M : Type 1} → statement M
++walk-spec = close μ-walk λ t. walk-lts.spec (
+  shape-at-reads.Asked,
+  shape-at-reads.Learnt,
+  number-reads.Asked,
+  number-reads.Learnt,
+  walk-below t,
+  walk.Post,
+  word-b-reads.Asked,
+  word-b-reads.Learnt,
+  word-c-reads.Asked,
+  word-c-reads.Learnt,
+)
+    (walk-at t)
+    walk.Post
+    (walk-returns t)
+    (walk-shape-at-requires t)
+    (walk-number-requires t)
+    (walk-returns-2 t)
+    (walk-add-t17 t)
+    (walk-returns-3 t)
+    (walk-add-walk t)
+    (walk-add-walk-2 t)
+    (walk-walk-requires t)
+    (walk-returns-4 t)
+    (walk-enum-known-first t)
+    (walk-enum-told t)
+    (walk-returns-5 t)
+    (walk-word-b-requires t)
+    (walk-returns-6 t)
+    (walk-add-walk-3 t)
+    (walk-walk-requires-2 t)
+    (walk-returns-7 t)
+    (walk-add-walk-4 t)
+    (walk-walk-requires-3 t)
+    (walk-enum-known-second t)
+    (walk-enum-told-2 t)
+    (walk-returns-8 t)
+    (walk-word-c-requires t)
+    (walk-returns-9 t)
+    (walk-add-walk-5 t)
+    (walk-walk-requires-4 t)
+    (walk-returns-10 t)

@@ -1,0 +1,76 @@
+-- What a machine learns of an accepted subtree, by its node.
+use Prim.Native.Nat.{ℕ, zero, suc, _+_, _<_, _≤_}
+use mathlib.Core.Path.{_≡_, refl, sym, ap, _∙_}
+use mathlib.Core.List.{List}
+use mathlib.Core.Bool.{Bool, true, false, cond, true≢false}
+use native.Mathlib.Omega.{arith}
+use lib.Dec.{ltb}
+use borrow.Author.Tests.{ltb-true, leb-true}
+use Rattle.table.specs.declared.Operation.{Operation}
+use Rattle.table.specs.declared.Node.{Node}
+use Rattle.table.specs.declared.Node.the-variants.{Constant, Local, Arithmetic, Choose, Let, Call, Both, Unknown}
+use Rattle.table.specs.declared.Body.{Body}
+use Rattle.table.specs.declared.Shape.{Shape}
+use Rattle.table.specs.Words.{functions, arityAt, tagAt, aAt, bAt, cAt}
+use Rattle.table.specs.Nodes.{arithmeticOf, nodeOf, nodeAt}
+use Rattle.table.specs.Walk.{known, unknown, unusedOf, shapeOf, callShape, shapeAt, numberOf}
+use Rattle.table.specs.WellFormed.{Subtree, root, Children, none, one, two, three, Assured, constant, local, arithmetic, choose, binding, call, both}
+use Rattle.table.proofs.Shapes.{Sound, sound}
+
+-- a node and the words that it was read from
+data Read (a b c : ℕ) : Node → Type 0 where
+  constant-read : {v : ℕ} → Read a b c (Constant v)
+  local-read : Read a b c (Local a)
+  arithmetic-read : {o : Operation} → Read a b c (Arithmetic o b)
+  choose-read : Read a b c (Choose b c)
+  let-read : Read a b c (Let b)
+  call-read : Read a b c (Call a b c)
+  both-read : Read a b c (Both b c)
+  unknown-read : Read a b c Unknown
+
+read-operation : (a b c operation : ℕ) → Read a b c (arithmeticOf operation b)
+unfolding arithmeticOf
+read-operation a b c zero = arithmetic-read
+read-operation a b c (suc zero) = arithmetic-read
+read-operation a b c (suc (suc zero)) = arithmetic-read
+read-operation a b c (suc (suc (suc zero))) = arithmetic-read
+read-operation a b c (suc (suc (suc (suc zero)))) = arithmetic-read
+read-operation a b c (suc (suc (suc (suc (suc zero))))) = arithmetic-read
+read-operation a b c (suc (suc (suc (suc (suc (suc zero)))))) = arithmetic-read
+read-operation a b c (suc (suc (suc (suc (suc (suc (suc n))))))) = unknown-read
+
+read-node : (tag a b c : ℕ) → Read a b c (nodeOf tag a b c)
+unfolding nodeOf
+read-node zero a b c = constant-read
+read-node (suc zero) a b c = local-read
+read-node (suc (suc zero)) a b c = read-operation a b c a
+read-node (suc (suc (suc zero))) a b c = choose-read
+read-node (suc (suc (suc (suc zero)))) a b c = let-read
+read-node (suc (suc (suc (suc (suc zero))))) a b c = call-read
+read-node (suc (suc (suc (suc (suc (suc zero)))))) a b c = both-read
+read-node (suc (suc (suc (suc (suc (suc (suc t))))))) a b c = unknown-read
+
+module _ (w : List ℕ) (body : Body) where
+  by-call : (f b c level p k q : ℕ) (t : Bool) → ltb f (functions w) ≡ t
+      → cond t (known (unusedOf (arityAt w f) b c) true (arityAt w f) k) (unknown k) .known ≡ true
+      → Children w body (level + 1) p k (cond t (known (unusedOf (arityAt w f) b c) true (arityAt w f) k) (unknown k) .last) q b c (cond t (known (unusedOf (arityAt w f) b c) true (arityAt w f) k) (unknown k) .children)
+      → Assured w body level p k q (Call f b c)
+  by-call f b c level p k q true l e s = call (ltb-true _ _ l) s
+  by-call f b c level p k q false l e s = absurd (true≢false (sym e))
+
+  -- by the node that the words gave
+  by-node : {a b c : ℕ} {node : Node} (level p k q : ℕ) → Read a b c node → Sound (shapeOf w a b c k node) level
+      → Children w body (level + 1) p k (shapeOf w a b c k node .last) q b c (shapeOf w a b c k node .children)
+      → Assured w body level p k q node
+  unfolding shapeOf callShape
+  by-node level p k q constant-read o (none e) = constant e
+  by-node level p k q local-read o (none e) = local (ltb-true _ _ (o .bound)) e
+  by-node level p k q arithmetic-read o (two s t) = arithmetic s t
+  by-node level p k q choose-read o (three s t u) = choose s t u
+  by-node level p k q let-read o (two s t) = binding (leb-true _ _ (o .bound)) s t
+  by-node {a} {b} {c} level p k q call-read o s = by-call a b c level p k q (ltb a (functions w)) refl (o .known) s
+  by-node level p k q both-read o (three s t u) = both (leb-true _ _ (o .bound)) s t u
+  by-node level p k q unknown-read o c = absurd (true≢false (sym (o .known)))
+
+  pub assured : {level p k q : ℕ} → Subtree w body level p k q → Assured w body level p k q (nodeAt w (body .start) p)
+  assured {level} {p} {k} {q} (root h z c) = by-node level p k q (read-node (tagAt w (body .start) p) _ _ _) (sound _ level z) c
