@@ -23,6 +23,13 @@ module _ (w : List ℕ) where
   starts-at (suc n) f zero h = let e : f + 0 ≡ f = omega arith in rw e
   starts-at (suc n) f (suc i) h = let e : f + suc i ≡ f + 1 + i = omega arith in rw e (starts-at n (f + 1) i (omega arith))
 
+  pub starts-sixty-four : length (startsOf w) ≡ 64
+  starts-sixty-four = starts-length 64 0
+
+  -- what `starts` gives of each function
+  pub starts-of : (f : ℕ) → f < functions w → functions w ≤ 64 → getD (startsOf w) f 0 ≡ startOf w f
+  starts-of f h k = let e : 0 + f ≡ f = omega arith in (rw e at (starts-at 64 0 f (omega arith))) ∙ rw (lt-ltb f (functions w) h)
+
   -- filled up to function f, and 0 from there on
   pub record Filled (found : List ℕ) (f : ℕ) : Type 0 where
     pub long : length found ≡ 64

@@ -7,6 +7,7 @@ use native.Mathlib.Omega.{arith}
 use lib.Dec.{ltb}
 use borrow.Author.Tests.{ltb-true, leb-true}
 use Rattle.table.specs.declared.Operation.{Operation}
+use Rattle.table.specs.declared.Operation.the-variants.{Add, Subtract, Multiply, Divide, Remainder, Less, Equal}
 use Rattle.table.specs.declared.Node.{Node}
 use Rattle.table.specs.declared.Node.the-variants.{Constant, Local, Arithmetic, Choose, Let, Call, Both, Unknown}
 use Rattle.table.specs.declared.Body.{Body}
@@ -74,3 +75,100 @@ module _ (w : List ℕ) (body : Body) where
 
   pub assured : {level p k q : ℕ} → Subtree w body level p k q → Assured w body level p k q (nodeAt w (body .start) p)
   assured {level} {p} {k} {q} (root h z c) = by-node level p k q (read-node (tagAt w (body .start) p) _ _ _) (sound _ level z) c
+
+-- the tag that a known node was read by
+unfoldable pub tagFor : Node → ℕ
+tagFor (Constant v) = 0
+tagFor (Local slot) = 1
+tagFor (Arithmetic o b) = 2
+tagFor (Choose b c) = 3
+tagFor (Let b) = 4
+tagFor (Call f b c) = 5
+tagFor (Both b c) = 6
+tagFor Unknown = 7
+
+arithmetic-tag : (operation b : ℕ) → (arithmeticOf operation b ≡ Unknown → ⊥) → tagFor (arithmeticOf operation b) ≡ 2
+unfolding arithmeticOf tagFor
+arithmetic-tag zero b h = refl
+arithmetic-tag (suc zero) b h = refl
+arithmetic-tag (suc (suc zero)) b h = refl
+arithmetic-tag (suc (suc (suc zero))) b h = refl
+arithmetic-tag (suc (suc (suc (suc zero)))) b h = refl
+arithmetic-tag (suc (suc (suc (suc (suc zero))))) b h = refl
+arithmetic-tag (suc (suc (suc (suc (suc (suc zero)))))) b h = refl
+arithmetic-tag (suc (suc (suc (suc (suc (suc (suc n))))))) b h = absurd (h refl)
+
+pub node-tag : (tag a b c : ℕ) → (nodeOf tag a b c ≡ Unknown → ⊥) → tagFor (nodeOf tag a b c) ≡ tag
+unfolding nodeOf tagFor
+node-tag zero a b c h = refl
+node-tag (suc zero) a b c h = refl
+node-tag (suc (suc zero)) a b c h = arithmetic-tag a b h
+node-tag (suc (suc (suc zero))) a b c h = refl
+node-tag (suc (suc (suc (suc zero)))) a b c h = refl
+node-tag (suc (suc (suc (suc (suc zero))))) a b c h = refl
+node-tag (suc (suc (suc (suc (suc (suc zero)))))) a b c h = refl
+node-tag (suc (suc (suc (suc (suc (suc (suc t))))))) a b c h = absurd (h refl)
+
+-- what is assured of a node, by its tag; the second child stands at b and the third at c
+module _ (w : List ℕ) (body : Body) where
+  module _ {level p k q : ℕ} where
+    arithmetic-of : (operation b : ℕ) → Assured w body level p k q (arithmeticOf operation b)
+        → (o : Operation) × (arithmeticOf operation b ≡ Arithmetic o b) × Subtree w body (level + 1) (p + 1) k b × Subtree w body (level + 1) b k q
+    unfolding arithmeticOf
+    arithmetic-of zero b (arithmetic s t) = (Add, refl, s, t)
+    arithmetic-of (suc zero) b (arithmetic s t) = (Subtract, refl, s, t)
+    arithmetic-of (suc (suc zero)) b (arithmetic s t) = (Multiply, refl, s, t)
+    arithmetic-of (suc (suc (suc zero))) b (arithmetic s t) = (Divide, refl, s, t)
+    arithmetic-of (suc (suc (suc (suc zero)))) b (arithmetic s t) = (Remainder, refl, s, t)
+    arithmetic-of (suc (suc (suc (suc (suc zero))))) b (arithmetic s t) = (Less, refl, s, t)
+    arithmetic-of (suc (suc (suc (suc (suc (suc zero)))))) b (arithmetic s t) = (Equal, refl, s, t)
+
+    choose-of : {b c : ℕ} → Assured w body level p k q (Choose b c) → Subtree w body (level + 1) (p + 1) k b × Subtree w body (level + 1) b k c × Subtree w body (level + 1) c k q
+    choose-of (choose s t u) = (s, t, u)
+
+    let-of : {b : ℕ} → Assured w body level p k q (Let b) → (k + 1 ≤ 16) × Subtree w body (level + 1) (p + 1) k b × Subtree w body (level + 1) b (k + 1) q
+    let-of (binding h s t) = (h, s, t)
+
+    call-of : {f b c : ℕ} → Assured w body level p k q (Call f b c) → (f < functions w) × Children w body (level + 1) p k k q b c (arityAt w f)
+    call-of (call h s) = (h, s)
+
+    both-of : {b c : ℕ} → Assured w body level p k q (Both b c) → (k + 2 ≤ 16) × Subtree w body (level + 1) (p + 1) k b × Subtree w body (level + 1) b k c × Subtree w body (level + 1) c (k + 2) q
+    both-of (both h s t u) = (h, s, t, u)
+
+    local-of : {slot : ℕ} → Assured w body level p k q (Local slot) → slot < k
+    local-of (local h e) = h
+
+  module _ {level p k q : ℕ} (s : Subtree w body level p k q) where
+    pub at-local : (slot : ℕ) → nodeAt w (body .start) p ≡ Local slot → slot < k
+    at-local slot e = local-of (rw e at (assured w body s))
+
+    pub known-node : nodeAt w (body .start) p ≡ Unknown → ⊥
+    known-node e = none-of (rw e at (assured w body s))
+      where
+        none-of : Assured w body level p k q Unknown → ⊥
+        none-of a = elim a [ ]
+
+    pub at-arithmetic : tagAt w (body .start) p ≡ 2
+        → (o : Operation) × (nodeAt w (body .start) p ≡ Arithmetic o (bAt w (body .start) p)) × Subtree w body (level + 1) (p + 1) k (bAt w (body .start) p) × Subtree w body (level + 1) (bAt w (body .start) p) k q
+    unfolding nodeOf
+    at-arithmetic t = rw t (arithmetic-of (aAt w (body .start) p) (bAt w (body .start) p) (rw t at (assured w body s)))
+
+    pub at-choose : tagAt w (body .start) p ≡ 3
+        → Subtree w body (level + 1) (p + 1) k (bAt w (body .start) p) × Subtree w body (level + 1) (bAt w (body .start) p) k (cAt w (body .start) p) × Subtree w body (level + 1) (cAt w (body .start) p) k q
+    unfolding nodeOf
+    at-choose t = choose-of (rw t at (assured w body s))
+
+    pub at-let : tagAt w (body .start) p ≡ 4
+        → (k + 1 ≤ 16) × Subtree w body (level + 1) (p + 1) k (bAt w (body .start) p) × Subtree w body (level + 1) (bAt w (body .start) p) (k + 1) q
+    unfolding nodeOf
+    at-let t = let-of (rw t at (assured w body s))
+
+    pub at-call : tagAt w (body .start) p ≡ 5
+        → (aAt w (body .start) p < functions w) × Children w body (level + 1) p k k q (bAt w (body .start) p) (cAt w (body .start) p) (arityAt w (aAt w (body .start) p))
+    unfolding nodeOf
+    at-call t = call-of (rw t at (assured w body s))
+
+    pub at-both : tagAt w (body .start) p ≡ 6
+        → (k + 2 ≤ 16) × Subtree w body (level + 1) (p + 1) k (bAt w (body .start) p) × Subtree w body (level + 1) (bAt w (body .start) p) k (cAt w (body .start) p) × Subtree w body (level + 1) (cAt w (body .start) p) (k + 2) q
+    unfolding nodeOf
+    at-both t = both-of (rw t at (assured w body s))

@@ -155,22 +155,22 @@ pub fn nodes(words: &[u32], f: usize) -> usize
     wide(words[2 * f + 2])
 }
 
-// The words a, b and c of a node.
-fn word_a(words: &[u32], start: usize, p: usize) -> usize
+// The words a, b and c of a node: the function that a call calls, and the positions of the second and the third child.
+pub fn called(words: &[u32], start: usize, p: usize) -> usize
     requires { ⌜ start + 4 * p + 4 ≤ length (now words) ⌝ }
     ensures { λ r. ⌜ r ≡ aAt (now (words .entry)) start p ⌝ }
 {
     wide(words[start + 4 * p + 1])
 }
 
-fn word_b(words: &[u32], start: usize, p: usize) -> usize
+pub fn second(words: &[u32], start: usize, p: usize) -> usize
     requires { ⌜ start + 4 * p + 4 ≤ length (now words) ⌝ }
     ensures { λ r. ⌜ r ≡ bAt (now (words .entry)) start p ⌝ }
 {
     wide(words[start + 4 * p + 2])
 }
 
-fn word_c(words: &[u32], start: usize, p: usize) -> usize
+pub fn third(words: &[u32], start: usize, p: usize) -> usize
     requires { ⌜ start + 4 * p + 4 ≤ length (now words) ⌝ }
     ensures { λ r. ⌜ r ≡ cAt (now (words .entry)) start p ⌝ }
 {
@@ -249,9 +249,9 @@ fn shape_at(words: &[u32], start: usize, p: usize, k: usize) -> Shape
     ensures { λ r. ⌜ r ≡ shapeAt (now (words .entry)) start p k ⌝ }
 {
     let node = node_at(words, start, p);
-    let a = word_a(words, start, p);
-    let b = word_b(words, start, p);
-    let c = word_c(words, start, p);
+    let a = called(words, start, p);
+    let b = second(words, start, p);
+    let c = third(words, start, p);
     shape_of(words, node, a, b, c, k)
 }
 
@@ -296,18 +296,18 @@ fn walk(words: &[u32], body: Body, level: usize, p: usize, k: usize) -> Walked
     let Walked::End(m) = first else {
         return first;
     };
-    let b = word_b(words, start, p);
+    let b = second(words, start, p);
     if b != m {
         return Walked::Fault(4, p);
     }
     if children == 2 {
         return walk(words, body, level + 1, b, shape.last);
     }
-    let second = walk(words, body, level + 1, b, k);
-    let Walked::End(n) = second else {
-        return second;
+    let middle = walk(words, body, level + 1, b, k);
+    let Walked::End(n) = middle else {
+        return middle;
     };
-    let c = word_c(words, start, p);
+    let c = third(words, start, p);
     if c != n {
         return Walked::Fault(4, p);
     }

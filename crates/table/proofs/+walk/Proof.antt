@@ -9,8 +9,8 @@ use Rattle.table.proofs.walk.Kinds as walk-kinds
 use Rattle.table.proofs.+walk.Lts-walk as walk-lts
 use Rattle.table.proofs.number.Reads as number-reads
 use Rattle.table.proofs.shape_at.Reads as shape-at-reads
-use Rattle.table.proofs.word_b.Reads as word-b-reads
-use Rattle.table.proofs.word_c.Reads as word-c-reads
+use Rattle.table.proofs.second.Reads as second-reads
+use Rattle.table.proofs.third.Reads as third-reads
 use Rattle.table.proofs.+walk.{statement}
 use Rattle.table.proofs.+walk.Tie.{close}
 
@@ -31,10 +31,10 @@ walk-returns : (t : ℕ) → walk-lts.Need-returns (
   number-reads.Learnt,
   walk-below t,
   walk.Post,
-  word-b-reads.Asked,
-  word-b-reads.Learnt,
-  word-c-reads.Asked,
-  word-c-reads.Learnt,
+  second-reads.Asked,
+  second-reads.Learnt,
+  third-reads.Asked,
+  third-reads.Learnt,
 ) (walk-at t) walk.Post
 walk-returns t c = walks-end _ _ _ _ _ (c .if1 .taken)
 
@@ -46,10 +46,10 @@ walk-shape-at-requires : (t : ℕ) → walk-lts.Need-shape-at-requires (
   number-reads.Learnt,
   walk-below t,
   walk.Post,
-  word-b-reads.Asked,
-  word-b-reads.Learnt,
-  word-c-reads.Asked,
-  word-c-reads.Learnt,
+  second-reads.Asked,
+  second-reads.Learnt,
+  third-reads.Asked,
+  third-reads.Learnt,
 ) (walk-at t) walk.Post
 walk-shape-at-requires t c κs = omega arith
 
@@ -61,10 +61,10 @@ walk-number-requires : (t : ℕ) → walk-lts.Need-number-requires (
   number-reads.Learnt,
   walk-below t,
   walk.Post,
-  word-b-reads.Asked,
-  word-b-reads.Learnt,
-  word-c-reads.Asked,
-  word-c-reads.Learnt,
+  second-reads.Asked,
+  second-reads.Learnt,
+  third-reads.Asked,
+  third-reads.Learnt,
 ) (walk-at t) walk.Post
 walk-number-requires t c κs = search needs
 
@@ -76,10 +76,10 @@ walk-returns-2 : (t : ℕ) → walk-lts.Need-returns-2 (
   number-reads.Learnt,
   walk-below t,
   walk.Post,
-  word-b-reads.Asked,
-  word-b-reads.Learnt,
-  word-c-reads.Asked,
-  word-c-reads.Learnt,
+  second-reads.Asked,
+  second-reads.Learnt,
+  third-reads.Asked,
+  third-reads.Learnt,
 ) (walk-at t) walk.Post
 walk-returns-2 t c = walks-own _ _ _ _ _ (c .before .before .before .if1 .left) _ (c .before .before .shape-at .ensures) _ (c .before .number .ensures) (c .if2 .taken)
 
@@ -91,10 +91,10 @@ walk-add-t17 : (t : ℕ) → walk-lts.Need-add-t17 (
   number-reads.Learnt,
   walk-below t,
   walk.Post,
-  word-b-reads.Asked,
-  word-b-reads.Learnt,
-  word-c-reads.Asked,
-  word-c-reads.Learnt,
+  second-reads.Asked,
+  second-reads.Learnt,
+  third-reads.Asked,
+  third-reads.Learnt,
 ) (walk-at t) walk.Post
 walk-add-t17 t c = search needs
 
@@ -106,10 +106,10 @@ walk-returns-3 : (t : ℕ) → walk-lts.Need-returns-3 (
   number-reads.Learnt,
   walk-below t,
   walk.Post,
-  word-b-reads.Asked,
-  word-b-reads.Learnt,
-  word-c-reads.Asked,
-  word-c-reads.Learnt,
+  second-reads.Asked,
+  second-reads.Learnt,
+  third-reads.Asked,
+  third-reads.Learnt,
 ) (walk-at t) walk.Post
 walk-returns-3 t c = walks-leaf _ _ _ _ _ (c .before .before .before .before .if1 .left) _ (c .before .before .before .shape-at .ensures) _ (c .before .before .number .ensures) (c .before .if2 .left) (c .if3 .taken)
 
@@ -121,10 +121,10 @@ walk-add-walk : (t : ℕ) → walk-lts.Need-add-walk (
   number-reads.Learnt,
   walk-below t,
   walk.Post,
-  word-b-reads.Asked,
-  word-b-reads.Learnt,
-  word-c-reads.Asked,
-  word-c-reads.Learnt,
+  second-reads.Asked,
+  second-reads.Learnt,
+  third-reads.Asked,
+  third-reads.Learnt,
 ) (walk-at t) walk.Post
 walk-add-walk t c = search needs
 
@@ -136,10 +136,10 @@ walk-add-walk-2 : (t : ℕ) → walk-lts.Need-add-walk-2 (
   number-reads.Learnt,
   walk-below t,
   walk.Post,
-  word-b-reads.Asked,
-  word-b-reads.Learnt,
-  word-c-reads.Asked,
-  word-c-reads.Learnt,
+  second-reads.Asked,
+  second-reads.Learnt,
+  third-reads.Asked,
+  third-reads.Learnt,
 ) (walk-at t) walk.Post
 walk-add-walk-2 t c = search needs
 
@@ -151,10 +151,10 @@ walk-walk-requires : (t : ℕ) → walk-lts.Need-walk-requires (
   number-reads.Learnt,
   walk-below t,
   walk.Post,
-  word-b-reads.Asked,
-  word-b-reads.Learnt,
-  word-c-reads.Asked,
-  word-c-reads.Learnt,
+  second-reads.Asked,
+  second-reads.Learnt,
+  third-reads.Asked,
+  third-reads.Learnt,
 ) (walk-at t) walk.Post
 walk-walk-requires t c κs = omega (arith, c .before .before .before .before .before .before .before .pre, deeper (c .before .before .before .before .before .before .before .args .words .now) (c .before .before .before .before .before .before .before .args .body) (c .before .before .before .before .before .before .before .args .level) (c .before .before .before .before .before .before .before .args .p) (c .before .before .before .before .before .before .before .args .k) (c .before .before .before .before .if1 .left) _ (c .before .before .before .shape-at .ensures) _ (c .before .before .number .ensures) (c .before .if2 .left) (c .before .before .before .before .before .before .before .pre .1 .1))
 
@@ -166,10 +166,10 @@ walk-returns-4 : (t : ℕ) → walk-lts.Need-returns-4 (
   number-reads.Learnt,
   walk-below t,
   walk.Post,
-  word-b-reads.Asked,
-  word-b-reads.Learnt,
-  word-c-reads.Asked,
-  word-c-reads.Learnt,
+  second-reads.Asked,
+  second-reads.Learnt,
+  third-reads.Asked,
+  third-reads.Learnt,
 ) (walk-at t) walk.Post
 walk-returns-4 t c = walks-one _ _ _ _ _ (c .before .before .before .before .before .before .if1 .left) _ (c .before .before .before .before .before .shape-at .ensures) _ (c .before .before .before .before .number .ensures) (c .before .before .before .if2 .left) _ (c .before .walk .ensures) (c .if4 .taken)
 
@@ -181,10 +181,10 @@ walk-enum-known-first : (t : ℕ) → walk-lts.Need-enum-known-first (
   number-reads.Learnt,
   walk-below t,
   walk.Post,
-  word-b-reads.Asked,
-  word-b-reads.Learnt,
-  word-c-reads.Asked,
-  word-c-reads.Learnt,
+  second-reads.Asked,
+  second-reads.Learnt,
+  third-reads.Asked,
+  third-reads.Learnt,
 ) (walk-at t) walk.Post
 walk-enum-known-first t c = search needs
 
@@ -196,10 +196,10 @@ walk-enum-told : (t : ℕ) → walk-lts.Need-enum-told (
   number-reads.Learnt,
   walk-below t,
   walk.Post,
-  word-b-reads.Asked,
-  word-b-reads.Learnt,
-  word-c-reads.Asked,
-  word-c-reads.Learnt,
+  second-reads.Asked,
+  second-reads.Learnt,
+  third-reads.Asked,
+  third-reads.Learnt,
 ) (walk-at t) walk.Post
 walk-enum-told t c = search needs
 
@@ -211,27 +211,27 @@ walk-returns-5 : (t : ℕ) → walk-lts.Need-returns-5 (
   number-reads.Learnt,
   walk-below t,
   walk.Post,
-  word-b-reads.Asked,
-  word-b-reads.Learnt,
-  word-c-reads.Asked,
-  word-c-reads.Learnt,
+  second-reads.Asked,
+  second-reads.Learnt,
+  third-reads.Asked,
+  third-reads.Learnt,
 ) (walk-at t) walk.Post
 walk-returns-5 t c = walks-first _ _ _ _ _ (c .before .before .before .before .before .before .before .before .if1 .left) _ (c .before .before .before .before .before .before .before .shape-at .ensures) _ (c .before .before .before .before .before .before .number .ensures) (c .before .before .before .before .before .if2 .left) _ (c .before .before .before .walk .ensures) (c .before .before .before .before .if3 .left) (c .before .before .if4 .left) _ _ (c .enum-told .given .1)
 
 -- src/lib.rt:298:9
-walk-word-b-requires : (t : ℕ) → walk-lts.Need-word-b-requires (
+walk-second-requires : (t : ℕ) → walk-lts.Need-second-requires (
   shape-at-reads.Asked,
   shape-at-reads.Learnt,
   number-reads.Asked,
   number-reads.Learnt,
   walk-below t,
   walk.Post,
-  word-b-reads.Asked,
-  word-b-reads.Learnt,
-  word-c-reads.Asked,
-  word-c-reads.Learnt,
+  second-reads.Asked,
+  second-reads.Learnt,
+  third-reads.Asked,
+  third-reads.Learnt,
 ) (walk-at t) walk.Post
-walk-word-b-requires t c κs = omega arith
+walk-second-requires t c κs = omega arith
 
 -- src/lib.rt:300:9
 walk-returns-6 : (t : ℕ) → walk-lts.Need-returns-6 (
@@ -241,12 +241,12 @@ walk-returns-6 : (t : ℕ) → walk-lts.Need-returns-6 (
   number-reads.Learnt,
   walk-below t,
   walk.Post,
-  word-b-reads.Asked,
-  word-b-reads.Learnt,
-  word-c-reads.Asked,
-  word-c-reads.Learnt,
+  second-reads.Asked,
+  second-reads.Learnt,
+  third-reads.Asked,
+  third-reads.Learnt,
 ) (walk-at t) walk.Post
-walk-returns-6 t c = walks-b _ _ _ _ _ (c .before .before .before .before .before .before .before .before .before .before .before .if1 .left) _ (c .before .before .before .before .before .before .before .before .before .before .shape-at .ensures) _ (c .before .before .before .before .before .before .before .before .before .number .ensures) (c .before .before .before .before .before .before .before .before .if2 .left) _ (c .before .before .before .before .before .before .walk .ensures) (c .before .before .before .before .before .before .before .if3 .left) (c .before .before .before .before .before .if4 .left) _ _ (c .before .word-b .ensures) (c .before .before .before .first .given .1) (c .if5 .taken)
+walk-returns-6 t c = walks-b _ _ _ _ _ (c .before .before .before .before .before .before .before .before .before .before .before .if1 .left) _ (c .before .before .before .before .before .before .before .before .before .before .shape-at .ensures) _ (c .before .before .before .before .before .before .before .before .before .number .ensures) (c .before .before .before .before .before .before .before .before .if2 .left) _ (c .before .before .before .before .before .before .walk .ensures) (c .before .before .before .before .before .before .before .if3 .left) (c .before .before .before .before .before .if4 .left) _ _ (c .before .second .ensures) (c .before .before .before .first .given .1) (c .if5 .taken)
 
 -- src/lib.rt:303:34
 walk-add-walk-3 : (t : ℕ) → walk-lts.Need-add-walk-3 (
@@ -256,10 +256,10 @@ walk-add-walk-3 : (t : ℕ) → walk-lts.Need-add-walk-3 (
   number-reads.Learnt,
   walk-below t,
   walk.Post,
-  word-b-reads.Asked,
-  word-b-reads.Learnt,
-  word-c-reads.Asked,
-  word-c-reads.Learnt,
+  second-reads.Asked,
+  second-reads.Learnt,
+  third-reads.Asked,
+  third-reads.Learnt,
 ) (walk-at t) walk.Post
 walk-add-walk-3 t c = search needs
 
@@ -271,12 +271,12 @@ walk-walk-requires-2 : (t : ℕ) → walk-lts.Need-walk-requires-2 (
   number-reads.Learnt,
   walk-below t,
   walk.Post,
-  word-b-reads.Asked,
-  word-b-reads.Learnt,
-  word-c-reads.Asked,
-  word-c-reads.Learnt,
+  second-reads.Asked,
+  second-reads.Learnt,
+  third-reads.Asked,
+  third-reads.Learnt,
 ) (walk-at t) walk.Post
-walk-walk-requires-2 t c κs = omega (arith, c .before .before .before .before .before .before .before .before .before .before .before .before .before .before .before .pre, deeper (c .before .before .before .before .before .before .before .before .before .before .before .before .before .before .before .args .words .now) (c .before .before .before .before .before .before .before .before .before .before .before .before .before .before .before .args .body) (c .before .before .before .before .before .before .before .before .before .before .before .before .before .before .before .args .level) (c .before .before .before .before .before .before .before .before .before .before .before .before .before .before .before .args .p) (c .before .before .before .before .before .before .before .before .before .before .before .before .before .before .before .args .k) (c .before .before .before .before .before .before .before .before .before .before .before .before .if1 .left) _ (c .before .before .before .before .before .before .before .before .before .before .before .shape-at .ensures) _ (c .before .before .before .before .before .before .before .before .before .before .number .ensures) (c .before .before .before .before .before .before .before .before .before .if2 .left) (c .before .before .before .before .before .before .before .before .before .before .before .before .before .before .before .pre .1 .1), within-b (c .before .before .before .before .before .before .before .before .before .before .before .before .before .before .before .args .words .now) (c .before .before .before .before .before .before .before .before .before .before .before .before .before .before .before .args .body) (c .before .before .before .before .before .before .before .before .before .before .before .before .before .before .before .args .level) (c .before .before .before .before .before .before .before .before .before .before .before .before .before .before .before .args .p) (c .before .before .before .before .before .before .before .before .before .before .before .before .before .before .before .args .k) (c .before .before .before .before .before .before .before .before .before .before .before .before .if1 .left) _ (c .before .before .before .before .before .before .before .before .before .before .before .shape-at .ensures) _ (c .before .before .before .before .before .before .before .before .before .before .number .ensures) (c .before .before .before .before .before .before .before .before .before .if2 .left) _ (c .before .before .before .before .before .before .before .walk .ensures) (c .before .before .before .before .before .before .before .before .if3 .left) (c .before .before .before .before .before .before .if4 .left) _ _ (c .before .before .word-b .ensures) (c .before .before .before .before .first .given .1) (c .before .if5 .left))
+walk-walk-requires-2 t c κs = omega (arith, c .before .before .before .before .before .before .before .before .before .before .before .before .before .before .before .pre, deeper (c .before .before .before .before .before .before .before .before .before .before .before .before .before .before .before .args .words .now) (c .before .before .before .before .before .before .before .before .before .before .before .before .before .before .before .args .body) (c .before .before .before .before .before .before .before .before .before .before .before .before .before .before .before .args .level) (c .before .before .before .before .before .before .before .before .before .before .before .before .before .before .before .args .p) (c .before .before .before .before .before .before .before .before .before .before .before .before .before .before .before .args .k) (c .before .before .before .before .before .before .before .before .before .before .before .before .if1 .left) _ (c .before .before .before .before .before .before .before .before .before .before .before .shape-at .ensures) _ (c .before .before .before .before .before .before .before .before .before .before .number .ensures) (c .before .before .before .before .before .before .before .before .before .if2 .left) (c .before .before .before .before .before .before .before .before .before .before .before .before .before .before .before .pre .1 .1), within-b (c .before .before .before .before .before .before .before .before .before .before .before .before .before .before .before .args .words .now) (c .before .before .before .before .before .before .before .before .before .before .before .before .before .before .before .args .body) (c .before .before .before .before .before .before .before .before .before .before .before .before .before .before .before .args .level) (c .before .before .before .before .before .before .before .before .before .before .before .before .before .before .before .args .p) (c .before .before .before .before .before .before .before .before .before .before .before .before .before .before .before .args .k) (c .before .before .before .before .before .before .before .before .before .before .before .before .if1 .left) _ (c .before .before .before .before .before .before .before .before .before .before .before .shape-at .ensures) _ (c .before .before .before .before .before .before .before .before .before .before .number .ensures) (c .before .before .before .before .before .before .before .before .before .if2 .left) _ (c .before .before .before .before .before .before .before .walk .ensures) (c .before .before .before .before .before .before .before .before .if3 .left) (c .before .before .before .before .before .before .if4 .left) _ _ (c .before .before .second .ensures) (c .before .before .before .before .first .given .1) (c .before .if5 .left))
 
 -- src/lib.rt:303:9
 walk-returns-7 : (t : ℕ) → walk-lts.Need-returns-7 (
@@ -286,12 +286,12 @@ walk-returns-7 : (t : ℕ) → walk-lts.Need-returns-7 (
   number-reads.Learnt,
   walk-below t,
   walk.Post,
-  word-b-reads.Asked,
-  word-b-reads.Learnt,
-  word-c-reads.Asked,
-  word-c-reads.Learnt,
+  second-reads.Asked,
+  second-reads.Learnt,
+  third-reads.Asked,
+  third-reads.Learnt,
 ) (walk-at t) walk.Post
-walk-returns-7 t c = walks-two _ _ _ _ _ (c .before .before .before .before .before .before .before .before .before .before .before .before .before .if1 .left) _ (c .before .before .before .before .before .before .before .before .before .before .before .before .shape-at .ensures) _ (c .before .before .before .before .before .before .before .before .before .before .before .number .ensures) (c .before .before .before .before .before .before .before .before .before .before .if2 .left) _ (c .before .before .before .before .before .before .before .before .walk .ensures) (c .before .before .before .before .before .before .before .before .before .if3 .left) (c .before .before .before .before .before .before .before .if4 .left) _ _ (c .before .before .before .word-b .ensures) (c .before .before .before .before .before .first .given .1) (c .before .before .if5 .left) (c .before .if6 .taken) _ (c .walk2 .ensures)
+walk-returns-7 t c = walks-two _ _ _ _ _ (c .before .before .before .before .before .before .before .before .before .before .before .before .before .if1 .left) _ (c .before .before .before .before .before .before .before .before .before .before .before .before .shape-at .ensures) _ (c .before .before .before .before .before .before .before .before .before .before .before .number .ensures) (c .before .before .before .before .before .before .before .before .before .before .if2 .left) _ (c .before .before .before .before .before .before .before .before .walk .ensures) (c .before .before .before .before .before .before .before .before .before .if3 .left) (c .before .before .before .before .before .before .before .if4 .left) _ _ (c .before .before .before .second .ensures) (c .before .before .before .before .before .first .given .1) (c .before .before .if5 .left) (c .before .if6 .taken) _ (c .walk2 .ensures)
 
 -- src/lib.rt:305:36
 walk-add-walk-4 : (t : ℕ) → walk-lts.Need-add-walk-4 (
@@ -301,10 +301,10 @@ walk-add-walk-4 : (t : ℕ) → walk-lts.Need-add-walk-4 (
   number-reads.Learnt,
   walk-below t,
   walk.Post,
-  word-b-reads.Asked,
-  word-b-reads.Learnt,
-  word-c-reads.Asked,
-  word-c-reads.Learnt,
+  second-reads.Asked,
+  second-reads.Learnt,
+  third-reads.Asked,
+  third-reads.Learnt,
 ) (walk-at t) walk.Post
 walk-add-walk-4 t c = search needs
 
@@ -316,27 +316,27 @@ walk-walk-requires-3 : (t : ℕ) → walk-lts.Need-walk-requires-3 (
   number-reads.Learnt,
   walk-below t,
   walk.Post,
-  word-b-reads.Asked,
-  word-b-reads.Learnt,
-  word-c-reads.Asked,
-  word-c-reads.Learnt,
+  second-reads.Asked,
+  second-reads.Learnt,
+  third-reads.Asked,
+  third-reads.Learnt,
 ) (walk-at t) walk.Post
-walk-walk-requires-3 t c κs = omega (arith, c .before .before .before .before .before .before .before .before .before .before .before .before .before .before .before .pre, deeper (c .before .before .before .before .before .before .before .before .before .before .before .before .before .before .before .args .words .now) (c .before .before .before .before .before .before .before .before .before .before .before .before .before .before .before .args .body) (c .before .before .before .before .before .before .before .before .before .before .before .before .before .before .before .args .level) (c .before .before .before .before .before .before .before .before .before .before .before .before .before .before .before .args .p) (c .before .before .before .before .before .before .before .before .before .before .before .before .before .before .before .args .k) (c .before .before .before .before .before .before .before .before .before .before .before .before .if1 .left) _ (c .before .before .before .before .before .before .before .before .before .before .before .shape-at .ensures) _ (c .before .before .before .before .before .before .before .before .before .before .number .ensures) (c .before .before .before .before .before .before .before .before .before .if2 .left) (c .before .before .before .before .before .before .before .before .before .before .before .before .before .before .before .pre .1 .1), within-b (c .before .before .before .before .before .before .before .before .before .before .before .before .before .before .before .args .words .now) (c .before .before .before .before .before .before .before .before .before .before .before .before .before .before .before .args .body) (c .before .before .before .before .before .before .before .before .before .before .before .before .before .before .before .args .level) (c .before .before .before .before .before .before .before .before .before .before .before .before .before .before .before .args .p) (c .before .before .before .before .before .before .before .before .before .before .before .before .before .before .before .args .k) (c .before .before .before .before .before .before .before .before .before .before .before .before .if1 .left) _ (c .before .before .before .before .before .before .before .before .before .before .before .shape-at .ensures) _ (c .before .before .before .before .before .before .before .before .before .before .number .ensures) (c .before .before .before .before .before .before .before .before .before .if2 .left) _ (c .before .before .before .before .before .before .before .walk .ensures) (c .before .before .before .before .before .before .before .before .if3 .left) (c .before .before .before .before .before .before .if4 .left) _ _ (c .before .before .word-b .ensures) (c .before .before .before .before .first .given .1) (c .before .if5 .left))
+walk-walk-requires-3 t c κs = omega (arith, c .before .before .before .before .before .before .before .before .before .before .before .before .before .before .before .pre, deeper (c .before .before .before .before .before .before .before .before .before .before .before .before .before .before .before .args .words .now) (c .before .before .before .before .before .before .before .before .before .before .before .before .before .before .before .args .body) (c .before .before .before .before .before .before .before .before .before .before .before .before .before .before .before .args .level) (c .before .before .before .before .before .before .before .before .before .before .before .before .before .before .before .args .p) (c .before .before .before .before .before .before .before .before .before .before .before .before .before .before .before .args .k) (c .before .before .before .before .before .before .before .before .before .before .before .before .if1 .left) _ (c .before .before .before .before .before .before .before .before .before .before .before .shape-at .ensures) _ (c .before .before .before .before .before .before .before .before .before .before .number .ensures) (c .before .before .before .before .before .before .before .before .before .if2 .left) (c .before .before .before .before .before .before .before .before .before .before .before .before .before .before .before .pre .1 .1), within-b (c .before .before .before .before .before .before .before .before .before .before .before .before .before .before .before .args .words .now) (c .before .before .before .before .before .before .before .before .before .before .before .before .before .before .before .args .body) (c .before .before .before .before .before .before .before .before .before .before .before .before .before .before .before .args .level) (c .before .before .before .before .before .before .before .before .before .before .before .before .before .before .before .args .p) (c .before .before .before .before .before .before .before .before .before .before .before .before .before .before .before .args .k) (c .before .before .before .before .before .before .before .before .before .before .before .before .if1 .left) _ (c .before .before .before .before .before .before .before .before .before .before .before .shape-at .ensures) _ (c .before .before .before .before .before .before .before .before .before .before .number .ensures) (c .before .before .before .before .before .before .before .before .before .if2 .left) _ (c .before .before .before .before .before .before .before .walk .ensures) (c .before .before .before .before .before .before .before .before .if3 .left) (c .before .before .before .before .before .before .if4 .left) _ _ (c .before .before .second .ensures) (c .before .before .before .before .first .given .1) (c .before .if5 .left))
 
 -- src/lib.rt:306:21
-walk-enum-known-second : (t : ℕ) → walk-lts.Need-enum-known-second (
+walk-enum-known-middle : (t : ℕ) → walk-lts.Need-enum-known-middle (
   shape-at-reads.Asked,
   shape-at-reads.Learnt,
   number-reads.Asked,
   number-reads.Learnt,
   walk-below t,
   walk.Post,
-  word-b-reads.Asked,
-  word-b-reads.Learnt,
-  word-c-reads.Asked,
-  word-c-reads.Learnt,
+  second-reads.Asked,
+  second-reads.Learnt,
+  third-reads.Asked,
+  third-reads.Learnt,
 ) (walk-at t) walk.Post
-walk-enum-known-second t c = search needs
+walk-enum-known-middle t c = search needs
 
 -- src/lib.rt:307:9
 walk-enum-told-2 : (t : ℕ) → walk-lts.Need-enum-told-2 (
@@ -346,10 +346,10 @@ walk-enum-told-2 : (t : ℕ) → walk-lts.Need-enum-told-2 (
   number-reads.Learnt,
   walk-below t,
   walk.Post,
-  word-b-reads.Asked,
-  word-b-reads.Learnt,
-  word-c-reads.Asked,
-  word-c-reads.Learnt,
+  second-reads.Asked,
+  second-reads.Learnt,
+  third-reads.Asked,
+  third-reads.Learnt,
 ) (walk-at t) walk.Post
 walk-enum-told-2 t c = search needs
 
@@ -361,27 +361,27 @@ walk-returns-8 : (t : ℕ) → walk-lts.Need-returns-8 (
   number-reads.Learnt,
   walk-below t,
   walk.Post,
-  word-b-reads.Asked,
-  word-b-reads.Learnt,
-  word-c-reads.Asked,
-  word-c-reads.Learnt,
+  second-reads.Asked,
+  second-reads.Learnt,
+  third-reads.Asked,
+  third-reads.Learnt,
 ) (walk-at t) walk.Post
-walk-returns-8 t c = walks-second _ _ _ _ _ (c .before .before .before .before .before .before .before .before .before .before .before .before .before .before .before .if1 .left) _ (c .before .before .before .before .before .before .before .before .before .before .before .before .before .before .shape-at .ensures) _ (c .before .before .before .before .before .before .before .before .before .before .before .before .before .number .ensures) (c .before .before .before .before .before .before .before .before .before .before .before .before .if2 .left) _ (c .before .before .before .before .before .before .before .before .before .before .walk .ensures) (c .before .before .before .before .before .before .before .before .before .before .before .if3 .left) (c .before .before .before .before .before .before .before .before .before .if4 .left) _ _ (c .before .before .before .before .before .word-b .ensures) (c .before .before .before .before .before .before .before .first .given .1) (c .before .before .before .before .if5 .left) (c .before .before .before .if6 .left) _ (c .before .before .walk3 .ensures) _ _ (c .enum-told2 .given .1)
+walk-returns-8 t c = walks-second _ _ _ _ _ (c .before .before .before .before .before .before .before .before .before .before .before .before .before .before .before .if1 .left) _ (c .before .before .before .before .before .before .before .before .before .before .before .before .before .before .shape-at .ensures) _ (c .before .before .before .before .before .before .before .before .before .before .before .before .before .number .ensures) (c .before .before .before .before .before .before .before .before .before .before .before .before .if2 .left) _ (c .before .before .before .before .before .before .before .before .before .before .walk .ensures) (c .before .before .before .before .before .before .before .before .before .before .before .if3 .left) (c .before .before .before .before .before .before .before .before .before .if4 .left) _ _ (c .before .before .before .before .before .second .ensures) (c .before .before .before .before .before .before .before .first .given .1) (c .before .before .before .before .if5 .left) (c .before .before .before .if6 .left) _ (c .before .before .walk3 .ensures) _ _ (c .enum-told2 .given .1)
 
 -- src/lib.rt:309:9
-walk-word-c-requires : (t : ℕ) → walk-lts.Need-word-c-requires (
+walk-third-requires : (t : ℕ) → walk-lts.Need-third-requires (
   shape-at-reads.Asked,
   shape-at-reads.Learnt,
   number-reads.Asked,
   number-reads.Learnt,
   walk-below t,
   walk.Post,
-  word-b-reads.Asked,
-  word-b-reads.Learnt,
-  word-c-reads.Asked,
-  word-c-reads.Learnt,
+  second-reads.Asked,
+  second-reads.Learnt,
+  third-reads.Asked,
+  third-reads.Learnt,
 ) (walk-at t) walk.Post
-walk-word-c-requires t c κs = omega arith
+walk-third-requires t c κs = omega arith
 
 -- src/lib.rt:311:9
 walk-returns-9 : (t : ℕ) → walk-lts.Need-returns-9 (
@@ -391,12 +391,12 @@ walk-returns-9 : (t : ℕ) → walk-lts.Need-returns-9 (
   number-reads.Learnt,
   walk-below t,
   walk.Post,
-  word-b-reads.Asked,
-  word-b-reads.Learnt,
-  word-c-reads.Asked,
-  word-c-reads.Learnt,
+  second-reads.Asked,
+  second-reads.Learnt,
+  third-reads.Asked,
+  third-reads.Learnt,
 ) (walk-at t) walk.Post
-walk-returns-9 t c = walks-c _ _ _ _ _ (c .before .before .before .before .before .before .before .before .before .before .before .before .before .before .before .before .before .before .if1 .left) _ (c .before .before .before .before .before .before .before .before .before .before .before .before .before .before .before .before .before .shape-at .ensures) _ (c .before .before .before .before .before .before .before .before .before .before .before .before .before .before .before .before .number .ensures) (c .before .before .before .before .before .before .before .before .before .before .before .before .before .before .before .if2 .left) _ (c .before .before .before .before .before .before .before .before .before .before .before .before .before .walk .ensures) (c .before .before .before .before .before .before .before .before .before .before .before .before .before .before .if3 .left) (c .before .before .before .before .before .before .before .before .before .before .before .before .if4 .left) _ _ (c .before .before .before .before .before .before .before .before .word-b .ensures) (c .before .before .before .before .before .before .before .before .before .before .first .given .1) (c .before .before .before .before .before .before .before .if5 .left) (c .before .before .before .before .before .before .if6 .left) _ (c .before .before .before .before .before .walk3 .ensures) _ _ (c .before .word-c .ensures) (c .before .before .before .second .given .1) (c .if7 .taken)
+walk-returns-9 t c = walks-c _ _ _ _ _ (c .before .before .before .before .before .before .before .before .before .before .before .before .before .before .before .before .before .before .if1 .left) _ (c .before .before .before .before .before .before .before .before .before .before .before .before .before .before .before .before .before .shape-at .ensures) _ (c .before .before .before .before .before .before .before .before .before .before .before .before .before .before .before .before .number .ensures) (c .before .before .before .before .before .before .before .before .before .before .before .before .before .before .before .if2 .left) _ (c .before .before .before .before .before .before .before .before .before .before .before .before .before .walk .ensures) (c .before .before .before .before .before .before .before .before .before .before .before .before .before .before .if3 .left) (c .before .before .before .before .before .before .before .before .before .before .before .before .if4 .left) _ _ (c .before .before .before .before .before .before .before .before .second .ensures) (c .before .before .before .before .before .before .before .before .before .before .first .given .1) (c .before .before .before .before .before .before .before .if5 .left) (c .before .before .before .before .before .before .if6 .left) _ (c .before .before .before .before .before .walk3 .ensures) _ _ (c .before .third .ensures) (c .before .before .before .middle .given .1) (c .if7 .taken)
 
 -- src/lib.rt:313:23
 walk-add-walk-5 : (t : ℕ) → walk-lts.Need-add-walk-5 (
@@ -406,10 +406,10 @@ walk-add-walk-5 : (t : ℕ) → walk-lts.Need-add-walk-5 (
   number-reads.Learnt,
   walk-below t,
   walk.Post,
-  word-b-reads.Asked,
-  word-b-reads.Learnt,
-  word-c-reads.Asked,
-  word-c-reads.Learnt,
+  second-reads.Asked,
+  second-reads.Learnt,
+  third-reads.Asked,
+  third-reads.Learnt,
 ) (walk-at t) walk.Post
 walk-add-walk-5 t c = omega (arith, c .before .before .before .before .before .before .before .before .before .before .before .before .before .before .before .before .before .before .before .before .before .pre)
 
@@ -421,12 +421,12 @@ walk-walk-requires-4 : (t : ℕ) → walk-lts.Need-walk-requires-4 (
   number-reads.Learnt,
   walk-below t,
   walk.Post,
-  word-b-reads.Asked,
-  word-b-reads.Learnt,
-  word-c-reads.Asked,
-  word-c-reads.Learnt,
+  second-reads.Asked,
+  second-reads.Learnt,
+  third-reads.Asked,
+  third-reads.Learnt,
 ) (walk-at t) walk.Post
-walk-walk-requires-4 t c κs = omega (arith, c .before .before .before .before .before .before .before .before .before .before .before .before .before .before .before .before .before .before .before .before .before .pre, deeper (c .before .before .before .before .before .before .before .before .before .before .before .before .before .before .before .before .before .before .before .before .before .args .words .now) (c .before .before .before .before .before .before .before .before .before .before .before .before .before .before .before .before .before .before .before .before .before .args .body) (c .before .before .before .before .before .before .before .before .before .before .before .before .before .before .before .before .before .before .before .before .before .args .level) (c .before .before .before .before .before .before .before .before .before .before .before .before .before .before .before .before .before .before .before .before .before .args .p) (c .before .before .before .before .before .before .before .before .before .before .before .before .before .before .before .before .before .before .before .before .before .args .k) (c .before .before .before .before .before .before .before .before .before .before .before .before .before .before .before .before .before .before .if1 .left) _ (c .before .before .before .before .before .before .before .before .before .before .before .before .before .before .before .before .before .shape-at .ensures) _ (c .before .before .before .before .before .before .before .before .before .before .before .before .before .before .before .before .number .ensures) (c .before .before .before .before .before .before .before .before .before .before .before .before .before .before .before .if2 .left) (c .before .before .before .before .before .before .before .before .before .before .before .before .before .before .before .before .before .before .before .before .before .pre .1 .1), within-c (c .before .before .before .before .before .before .before .before .before .before .before .before .before .before .before .before .before .before .before .before .before .args .words .now) (c .before .before .before .before .before .before .before .before .before .before .before .before .before .before .before .before .before .before .before .before .before .args .body) (c .before .before .before .before .before .before .before .before .before .before .before .before .before .before .before .before .before .before .before .before .before .args .level) (c .before .before .before .before .before .before .before .before .before .before .before .before .before .before .before .before .before .before .before .before .before .args .p) (c .before .before .before .before .before .before .before .before .before .before .before .before .before .before .before .before .before .before .before .before .before .args .k) (c .before .before .before .before .before .before .before .before .before .before .before .before .before .before .before .before .before .before .if1 .left) _ (c .before .before .before .before .before .before .before .before .before .before .before .before .before .before .before .before .before .shape-at .ensures) _ (c .before .before .before .before .before .before .before .before .before .before .before .before .before .before .before .before .number .ensures) (c .before .before .before .before .before .before .before .before .before .before .before .before .before .before .before .if2 .left) _ (c .before .before .before .before .before .before .before .before .before .before .before .before .before .walk .ensures) (c .before .before .before .before .before .before .before .before .before .before .before .before .before .before .if3 .left) (c .before .before .before .before .before .before .before .before .before .before .before .before .if4 .left) _ _ (c .before .before .before .before .before .before .before .before .word-b .ensures) (c .before .before .before .before .before .before .before .before .before .before .first .given .1) (c .before .before .before .before .before .before .before .if5 .left) (c .before .before .before .before .before .before .if6 .left) _ (c .before .before .before .before .before .walk3 .ensures) _ _ (c .before .word-c .ensures) (c .before .before .before .second .given .1) (c .if7 .left))
+walk-walk-requires-4 t c κs = omega (arith, c .before .before .before .before .before .before .before .before .before .before .before .before .before .before .before .before .before .before .before .before .before .pre, deeper (c .before .before .before .before .before .before .before .before .before .before .before .before .before .before .before .before .before .before .before .before .before .args .words .now) (c .before .before .before .before .before .before .before .before .before .before .before .before .before .before .before .before .before .before .before .before .before .args .body) (c .before .before .before .before .before .before .before .before .before .before .before .before .before .before .before .before .before .before .before .before .before .args .level) (c .before .before .before .before .before .before .before .before .before .before .before .before .before .before .before .before .before .before .before .before .before .args .p) (c .before .before .before .before .before .before .before .before .before .before .before .before .before .before .before .before .before .before .before .before .before .args .k) (c .before .before .before .before .before .before .before .before .before .before .before .before .before .before .before .before .before .before .if1 .left) _ (c .before .before .before .before .before .before .before .before .before .before .before .before .before .before .before .before .before .shape-at .ensures) _ (c .before .before .before .before .before .before .before .before .before .before .before .before .before .before .before .before .number .ensures) (c .before .before .before .before .before .before .before .before .before .before .before .before .before .before .before .if2 .left) (c .before .before .before .before .before .before .before .before .before .before .before .before .before .before .before .before .before .before .before .before .before .pre .1 .1), within-c (c .before .before .before .before .before .before .before .before .before .before .before .before .before .before .before .before .before .before .before .before .before .args .words .now) (c .before .before .before .before .before .before .before .before .before .before .before .before .before .before .before .before .before .before .before .before .before .args .body) (c .before .before .before .before .before .before .before .before .before .before .before .before .before .before .before .before .before .before .before .before .before .args .level) (c .before .before .before .before .before .before .before .before .before .before .before .before .before .before .before .before .before .before .before .before .before .args .p) (c .before .before .before .before .before .before .before .before .before .before .before .before .before .before .before .before .before .before .before .before .before .args .k) (c .before .before .before .before .before .before .before .before .before .before .before .before .before .before .before .before .before .before .if1 .left) _ (c .before .before .before .before .before .before .before .before .before .before .before .before .before .before .before .before .before .shape-at .ensures) _ (c .before .before .before .before .before .before .before .before .before .before .before .before .before .before .before .before .number .ensures) (c .before .before .before .before .before .before .before .before .before .before .before .before .before .before .before .if2 .left) _ (c .before .before .before .before .before .before .before .before .before .before .before .before .before .walk .ensures) (c .before .before .before .before .before .before .before .before .before .before .before .before .before .before .if3 .left) (c .before .before .before .before .before .before .before .before .before .before .before .before .if4 .left) _ _ (c .before .before .before .before .before .before .before .before .second .ensures) (c .before .before .before .before .before .before .before .before .before .before .first .given .1) (c .before .before .before .before .before .before .before .if5 .left) (c .before .before .before .before .before .before .if6 .left) _ (c .before .before .before .before .before .walk3 .ensures) _ _ (c .before .third .ensures) (c .before .before .before .middle .given .1) (c .if7 .left))
 
 -- src/lib.rt:274:1
 walk-returns-10 : (t : ℕ) → walk-lts.Need-returns-10 (
@@ -436,12 +436,12 @@ walk-returns-10 : (t : ℕ) → walk-lts.Need-returns-10 (
   number-reads.Learnt,
   walk-below t,
   walk.Post,
-  word-b-reads.Asked,
-  word-b-reads.Learnt,
-  word-c-reads.Asked,
-  word-c-reads.Learnt,
+  second-reads.Asked,
+  second-reads.Learnt,
+  third-reads.Asked,
+  third-reads.Learnt,
 ) (walk-at t) walk.Post
-walk-returns-10 t c = walks-three _ _ _ _ _ (c .before .before .before .before .before .before .before .before .before .before .before .before .before .before .before .before .before .before .before .if1 .left) _ (c .before .before .before .before .before .before .before .before .before .before .before .before .before .before .before .before .before .before .shape-at .ensures) _ (c .before .before .before .before .before .before .before .before .before .before .before .before .before .before .before .before .before .number .ensures) (c .before .before .before .before .before .before .before .before .before .before .before .before .before .before .before .before .if2 .left) _ (c .before .before .before .before .before .before .before .before .before .before .before .before .before .before .walk .ensures) (c .before .before .before .before .before .before .before .before .before .before .before .before .before .before .before .if3 .left) (c .before .before .before .before .before .before .before .before .before .before .before .before .before .if4 .left) _ _ (c .before .before .before .before .before .before .before .before .before .word-b .ensures) (c .before .before .before .before .before .before .before .before .before .before .before .first .given .1) (c .before .before .before .before .before .before .before .before .if5 .left) (c .before .before .before .before .before .before .before .if6 .left) _ (c .before .before .before .before .before .before .walk3 .ensures) _ _ (c .before .before .word-c .ensures) (c .before .before .before .before .second .given .1) (c .before .if7 .left) _ (c .walk4 .ensures)
+walk-returns-10 t c = walks-three _ _ _ _ _ (c .before .before .before .before .before .before .before .before .before .before .before .before .before .before .before .before .before .before .before .if1 .left) _ (c .before .before .before .before .before .before .before .before .before .before .before .before .before .before .before .before .before .before .shape-at .ensures) _ (c .before .before .before .before .before .before .before .before .before .before .before .before .before .before .before .before .before .number .ensures) (c .before .before .before .before .before .before .before .before .before .before .before .before .before .before .before .before .if2 .left) _ (c .before .before .before .before .before .before .before .before .before .before .before .before .before .before .walk .ensures) (c .before .before .before .before .before .before .before .before .before .before .before .before .before .before .before .if3 .left) (c .before .before .before .before .before .before .before .before .before .before .before .before .before .if4 .left) _ _ (c .before .before .before .before .before .before .before .before .before .second .ensures) (c .before .before .before .before .before .before .before .before .before .before .before .first .given .1) (c .before .before .before .before .before .before .before .before .if5 .left) (c .before .before .before .before .before .before .before .if6 .left) _ (c .before .before .before .before .before .before .walk3 .ensures) _ _ (c .before .before .third .ensures) (c .before .before .before .before .middle .given .1) (c .before .if7 .left) _ (c .walk4 .ensures)
 
 pub +walk-spec : {M : Type 1} → statement M
 +walk-spec = close μ-walk λ t. walk-lts.spec (
@@ -451,10 +451,10 @@ pub +walk-spec : {M : Type 1} → statement M
   number-reads.Learnt,
   walk-below t,
   walk.Post,
-  word-b-reads.Asked,
-  word-b-reads.Learnt,
-  word-c-reads.Asked,
-  word-c-reads.Learnt,
+  second-reads.Asked,
+  second-reads.Learnt,
+  third-reads.Asked,
+  third-reads.Learnt,
 )
     (walk-at t)
     walk.Post
@@ -471,17 +471,17 @@ pub +walk-spec : {M : Type 1} → statement M
     (walk-enum-known-first t)
     (walk-enum-told t)
     (walk-returns-5 t)
-    (walk-word-b-requires t)
+    (walk-second-requires t)
     (walk-returns-6 t)
     (walk-add-walk-3 t)
     (walk-walk-requires-2 t)
     (walk-returns-7 t)
     (walk-add-walk-4 t)
     (walk-walk-requires-3 t)
-    (walk-enum-known-second t)
+    (walk-enum-known-middle t)
     (walk-enum-told-2 t)
     (walk-returns-8 t)
-    (walk-word-c-requires t)
+    (walk-third-requires t)
     (walk-returns-9 t)
     (walk-add-walk-5 t)
     (walk-walk-requires-4 t)

@@ -7,25 +7,25 @@ use Rattle.table.proofs.shape_at.Reads as reads
 use Rattle.table.proofs.shape_at.Lts as lts
 use Rattle.table.proofs.node_at.Reads as node-at-reads
 use Rattle.table.proofs.shape_of.Reads as shape-of-reads
-use Rattle.table.proofs.word_a.Reads as word-a-reads
-use Rattle.table.proofs.word_b.Reads as word-b-reads
-use Rattle.table.proofs.word_c.Reads as word-c-reads
+use Rattle.table.proofs.called.Reads as called-reads
+use Rattle.table.proofs.second.Reads as second-reads
+use Rattle.table.proofs.third.Reads as third-reads
 
 -- src/lib.rt:250:9
 node-at-requires : tie.Need-node-at-requires
 node-at-requires c κs = search needs
 
 -- src/lib.rt:251:9
-word-a-requires : tie.Need-word-a-requires
-word-a-requires c κs = search needs
+called-requires : tie.Need-called-requires
+called-requires c κs = search needs
 
 -- src/lib.rt:252:9
-word-b-requires : tie.Need-word-b-requires
-word-b-requires c κs = search needs
+second-requires : tie.Need-second-requires
+second-requires c κs = search needs
 
 -- src/lib.rt:253:9
-word-c-requires : tie.Need-word-c-requires
-word-c-requires c κs = search needs
+third-requires : tie.Need-third-requires
+third-requires c κs = search needs
 
 -- src/lib.rt:254:5
 shape-of-requires : tie.Need-shape-of-requires
@@ -34,15 +34,15 @@ shape-of-requires c κs = search needs
 -- src/lib.rt:246:1
 returns : tie.Need-returns
 unfolding shapeOf nodeOf
-returns c = rw (← c .before .before .before .word-a .ensures, ← c .before .before .word-b .ensures, ← c .before .word-c .ensures, ← c .before .before .before .before .node-at .ensures) (c .shape-of .ensures)
+returns c = rw (← c .before .before .before .called .ensures, ← c .before .before .second .ensures, ← c .before .third .ensures, ← c .before .before .before .before .node-at .ensures) (c .shape-of .ensures)
 
 pub shape-at-spec : {M : Type 1} → statement M
 shape-at-spec =
     tie.close
     (tie.spec
     node-at-requires
-    word-a-requires
-    word-b-requires
-    word-c-requires
+    called-requires
+    second-requires
+    third-requires
     shape-of-requires
     returns)
