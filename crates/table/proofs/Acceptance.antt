@@ -1,12 +1,12 @@
 -- A table is accepted iff it is well-formed.
-use Prim.Native.Nat.{ℕ, zero, suc, _+_, _*_, _<_, _≤_}
+use Prim.Native.Nat.{ℕ, _+_, _*_, _<_}
 use mathlib.Core.Path.{_≡_, refl, sym, ap, _∙_}
 use mathlib.Core.List.{List}
 use mathlib.Core.Logic.{_↔_}
-use mathlib.Core.Bool.{Bool, true, false, cond, _&&_, true≢false}
+use mathlib.Core.Bool.{Bool, true, false, _&&_, true≢false}
 use native.Mathlib.Omega.{arith}
 use lib.ListN.{length}
-use lib.Dec.{leb, eqb}
+use lib.Dec.{leb}
 use borrow.Author.Tests.{le-leb, leb-true, eq-eqb, ne-eqb, eqb-true}
 use Rattle.table.specs.declared.Refusal.{Refusal}
 use Rattle.table.specs.declared.Reading.{Reading}
@@ -14,7 +14,7 @@ use Rattle.table.specs.declared.Reading.the-variants.{Accepted, Refused}
 use Rattle.table.specs.declared.Walked.{Walked}
 use Rattle.table.specs.declared.Walked.the-variants.{End, Fault}
 use Rattle.table.specs.Words.{functions, arityAt, nodesAt, nodesBefore, startOf, bodyAt}
-use Rattle.table.specs.Walk.{walkOf, Walks}
+use Rattle.table.specs.Walk.{Walks}
 use Rattle.table.specs.Read.{refused, _then_, unless, headerTest, header, entryTest, entry, exact, rootOf, bodyRead, each, contents, bodies, readOf}
 use Rattle.table.specs.WellFormed.{Subtree, Header, Entry, Contents, WellFormed}
 use Rattle.table.proofs.InOrder.{then-iff, each-iff, then-stop, then-go}

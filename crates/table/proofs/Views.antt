@@ -1,9 +1,8 @@
 -- What a machine learns of an accepted subtree, by its node.
 use Prim.Native.Nat.{ℕ, zero, suc, _+_, _<_, _≤_}
-use mathlib.Core.Path.{_≡_, refl, sym, ap, _∙_}
+use mathlib.Core.Path.{_≡_, refl, sym}
 use mathlib.Core.List.{List}
 use mathlib.Core.Bool.{Bool, true, false, cond, true≢false}
-use native.Mathlib.Omega.{arith}
 use lib.Dec.{ltb}
 use borrow.Author.Tests.{ltb-true, leb-true}
 use Rattle.table.specs.declared.Operation.{Operation}
@@ -11,11 +10,10 @@ use Rattle.table.specs.declared.Operation.the-variants.{Add, Subtract, M
 use Rattle.table.specs.declared.Node.{Node}
 use Rattle.table.specs.declared.Node.the-variants.{Constant, Local, Arithmetic, Choose, Let, Call, Both, Unknown}
 use Rattle.table.specs.declared.Body.{Body}
-use Rattle.table.specs.declared.Shape.{Shape}
 use Rattle.table.specs.Words.{functions, arityAt, tagAt, aAt, bAt, cAt}
 use Rattle.table.specs.Nodes.{arithmeticOf, nodeOf, nodeAt}
-use Rattle.table.specs.Walk.{known, unknown, unusedOf, shapeOf, callShape, shapeAt, numberOf}
-use Rattle.table.specs.WellFormed.{Subtree, root, Children, none, one, two, three, Assured, constant, local, arithmetic, choose, binding, call, both}
+use Rattle.table.specs.Walk.{known, unknown, unusedOf, shapeOf, callShape}
+use Rattle.table.specs.WellFormed.{Subtree, root, Children, none, two, three, Assured, constant, local, arithmetic, choose, binding, call, both}
 use Rattle.table.proofs.Shapes.{Sound, sound}
 
 -- a node and the words that it was read from

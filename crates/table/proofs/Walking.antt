@@ -1,9 +1,8 @@
 -- What each way through a call of the walk tells.
-use Prim.Native.Nat.{ℕ, zero, suc, _+_, _*_, _<_, _≤_}
-use mathlib.Core.Path.{_≡_, refl, sym, ap, _∙_}
+use Prim.Native.Nat.{ℕ, zero, suc, _+_, _<_, _≤_}
+use mathlib.Core.Path.{_≡_, refl, sym, _∙_}
 use mathlib.Core.List.{List}
 use native.Mathlib.Omega.{arith}
-use lib.Dec.{leb, eqb}
 use borrow.Author.Tests.{le-leb, lt-leb, eq-eqb, ne-eqb}
 use Rattle.table.specs.declared.Body.{Body}
 use Rattle.table.specs.declared.Shape.{Shape}
@@ -11,7 +10,7 @@ use Rattle.table.specs.declared.Walked.{Walked}
 use Rattle.table.specs.declared.Walked.the-variants.{End, Fault}
 use Rattle.table.specs.Words.{bAt, cAt}
 use Rattle.table.specs.Walk.{shapeAt, numberOf, next, afterFirst, children, own, walkOf, Walks}
-use Rattle.table.proofs.Shapes.{Sound, sound, last-few}
+use Rattle.table.proofs.Shapes.{sound, last-few}
 
 -- a number other than 0 and 1, and one other than 0, 1 and 2
 two-more : (n : ℕ) → (n ≡ 0 → ⊥) → (n ≡ 1 → ⊥) → (j : ℕ) × (n ≡ suc (suc j))

@@ -2,7 +2,6 @@
 use Prim.Native.Nat.{ℕ, _+_, _*_}
 use mathlib.Core.List.{List, [], _∷_}
 use lib.ListN.{getD}
-use Rattle.table.specs.declared.Operation.{Operation}
 use Rattle.table.specs.declared.Operation.the-variants.{Add, Subtract, Multiply, Divide, Remainder, Less, Equal}
 use Rattle.table.specs.declared.Node.{Node}
 use Rattle.table.specs.declared.Node.the-variants.{Constant, Local, Arithmetic, Choose, Let, Call, Both, Unknown}

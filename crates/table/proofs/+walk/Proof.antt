@@ -1,3 +1,4 @@
+-- `table::walk` meets its contract, by the laws of Walking.
 use Rattle.table.proofs.Walking.{walks-end, walks-own, deeper, walks-leaf, walks-one, walks-first, walks-b, within-b, walks-two, walks-second, walks-c, within-c, walks-three}
 use borrow.Author.Needs.{needs}
 use native.Mathlib.Omega.{arith}
@@ -23,7 +24,6 @@ walk-at t = and 1 walk-kinds.ps (is 1 walk-kinds.ps μ-walk t) walk.Pre
 abbrev walk-below : ℕ → In 1 walk-kinds.ps
 walk-below t = and 1 walk-kinds.ps (falls 1 walk-kinds.ps _<_ μ-walk t) walk.Pre
 
--- src/lib.rt:280:9
 walk-returns : (t : ℕ) → walk-lts.Need-returns (
   shape-at-reads.Asked,
   shape-at-reads.Learnt,
@@ -38,7 +38,6 @@ walk-returns : (t : ℕ) → walk-lts.Need-returns (
 ) (walk-at t) walk.Post
 walk-returns t c = walks-end _ _ _ _ _ (c .if1 .taken)
 
--- src/lib.rt:282:9
 walk-shape-at-requires : (t : ℕ) → walk-lts.Need-shape-at-requires (
   shape-at-reads.Asked,
   shape-at-reads.Learnt,
@@ -53,7 +52,6 @@ walk-shape-at-requires : (t : ℕ) → walk-lts.Need-shape-at-requires (
 ) (walk-at t) walk.Post
 walk-shape-at-requires t c κs = omega arith
 
--- src/lib.rt:283:9
 walk-number-requires : (t : ℕ) → walk-lts.Need-number-requires (
   shape-at-reads.Asked,
   shape-at-reads.Learnt,
@@ -68,7 +66,6 @@ walk-number-requires : (t : ℕ) → walk-lts.Need-number-requires (
 ) (walk-at t) walk.Post
 walk-number-requires t c κs = search needs
 
--- src/lib.rt:285:9
 walk-returns-2 : (t : ℕ) → walk-lts.Need-returns-2 (
   shape-at-reads.Asked,
   shape-at-reads.Learnt,
@@ -83,7 +80,6 @@ walk-returns-2 : (t : ℕ) → walk-lts.Need-returns-2 (
 ) (walk-at t) walk.Post
 walk-returns-2 t c = walks-own _ _ _ _ _ (c .before .before .before .if1 .left) _ (c .before .before .shape-at .ensures) _ (c .before .number .ensures) (c .if2 .taken)
 
--- src/lib.rt:289:28
 walk-add-t17 : (t : ℕ) → walk-lts.Need-add-t17 (
   shape-at-reads.Asked,
   shape-at-reads.Learnt,
@@ -98,7 +94,6 @@ walk-add-t17 : (t : ℕ) → walk-lts.Need-add-t17 (
 ) (walk-at t) walk.Post
 walk-add-t17 t c = search needs
 
--- src/lib.rt:289:9
 walk-returns-3 : (t : ℕ) → walk-lts.Need-returns-3 (
   shape-at-reads.Asked,
   shape-at-reads.Learnt,
@@ -113,7 +108,6 @@ walk-returns-3 : (t : ℕ) → walk-lts.Need-returns-3 (
 ) (walk-at t) walk.Post
 walk-returns-3 t c = walks-leaf _ _ _ _ _ (c .before .before .before .before .if1 .left) _ (c .before .before .before .shape-at .ensures) _ (c .before .before .number .ensures) (c .before .if2 .left) (c .if3 .taken)
 
--- src/lib.rt:291:35
 walk-add-walk : (t : ℕ) → walk-lts.Need-add-walk (
   shape-at-reads.Asked,
   shape-at-reads.Learnt,
@@ -128,7 +122,6 @@ walk-add-walk : (t : ℕ) → walk-lts.Need-add-walk (
 ) (walk-at t) walk.Post
 walk-add-walk t c = search needs
 
--- src/lib.rt:291:46
 walk-add-walk-2 : (t : ℕ) → walk-lts.Need-add-walk-2 (
   shape-at-reads.Asked,
   shape-at-reads.Learnt,
@@ -143,7 +136,6 @@ walk-add-walk-2 : (t : ℕ) → walk-lts.Need-add-walk-2 (
 ) (walk-at t) walk.Post
 walk-add-walk-2 t c = search needs
 
--- src/lib.rt:291:9
 walk-walk-requires : (t : ℕ) → walk-lts.Need-walk-requires (
   shape-at-reads.Asked,
   shape-at-reads.Learnt,
@@ -158,7 +150,6 @@ walk-walk-requires : (t : ℕ) → walk-lts.Need-walk-requires (
 ) (walk-at t) walk.Post
 walk-walk-requires t c κs = omega (arith, c .before .before .before .before .before .before .before .pre, deeper (c .before .before .before .before .before .before .before .args .words .now) (c .before .before .before .before .before .before .before .args .body) (c .before .before .before .before .before .before .before .args .level) (c .before .before .before .before .before .before .before .args .p) (c .before .before .before .before .before .before .before .args .k) (c .before .before .before .before .if1 .left) _ (c .before .before .before .shape-at .ensures) _ (c .before .before .number .ensures) (c .before .if2 .left) (c .before .before .before .before .before .before .before .pre .1 .1))
 
--- src/lib.rt:293:9
 walk-returns-4 : (t : ℕ) → walk-lts.Need-returns-4 (
   shape-at-reads.Asked,
   shape-at-reads.Learnt,
@@ -173,7 +164,6 @@ walk-returns-4 : (t : ℕ) → walk-lts.Need-returns-4 (
 ) (walk-at t) walk.Post
 walk-returns-4 t c = walks-one _ _ _ _ _ (c .before .before .before .before .before .before .if1 .left) _ (c .before .before .before .before .before .shape-at .ensures) _ (c .before .before .before .before .number .ensures) (c .before .before .before .if2 .left) _ (c .before .walk .ensures) (c .if4 .taken)
 
--- src/lib.rt:295:21
 walk-enum-known-first : (t : ℕ) → walk-lts.Need-enum-known-first (
   shape-at-reads.Asked,
   shape-at-reads.Learnt,
@@ -188,7 +178,6 @@ walk-enum-known-first : (t : ℕ) → walk-lts.Need-enum-known-first (
 ) (walk-at t) walk.Post
 walk-enum-known-first t c = search needs
 
--- src/lib.rt:296:9
 walk-enum-told : (t : ℕ) → walk-lts.Need-enum-told (
   shape-at-reads.Asked,
   shape-at-reads.Learnt,
@@ -203,7 +192,6 @@ walk-enum-told : (t : ℕ) → walk-lts.Need-enum-told (
 ) (walk-at t) walk.Post
 walk-enum-told t c = search needs
 
--- src/lib.rt:296:9
 walk-returns-5 : (t : ℕ) → walk-lts.Need-returns-5 (
   shape-at-reads.Asked,
   shape-at-reads.Learnt,
@@ -218,7 +206,6 @@ walk-returns-5 : (t : ℕ) → walk-lts.Need-returns-5 (
 ) (walk-at t) walk.Post
 walk-returns-5 t c = walks-first _ _ _ _ _ (c .before .before .before .before .before .before .before .before .if1 .left) _ (c .before .before .before .before .before .before .before .shape-at .ensures) _ (c .before .before .before .before .before .before .number .ensures) (c .before .before .before .before .before .if2 .left) _ (c .before .before .before .walk .ensures) (c .before .before .before .before .if3 .left) (c .before .before .if4 .left) _ _ (c .enum-told .given .1)
 
--- src/lib.rt:298:9
 walk-second-requires : (t : ℕ) → walk-lts.Need-second-requires (
   shape-at-reads.Asked,
   shape-at-reads.Learnt,
@@ -233,7 +220,6 @@ walk-second-requires : (t : ℕ) → walk-lts.Need-second-requires (
 ) (walk-at t) walk.Post
 walk-second-requires t c κs = omega arith
 
--- src/lib.rt:300:9
 walk-returns-6 : (t : ℕ) → walk-lts.Need-returns-6 (
   shape-at-reads.Asked,
   shape-at-reads.Learnt,
@@ -248,7 +234,6 @@ walk-returns-6 : (t : ℕ) → walk-lts.Need-returns-6 (
 ) (walk-at t) walk.Post
 walk-returns-6 t c = walks-b _ _ _ _ _ (c .before .before .before .before .before .before .before .before .before .before .before .if1 .left) _ (c .before .before .before .before .before .before .before .before .before .before .shape-at .ensures) _ (c .before .before .before .before .before .before .before .before .before .number .ensures) (c .before .before .before .before .before .before .before .before .if2 .left) _ (c .before .before .before .before .before .before .walk .ensures) (c .before .before .before .before .before .before .before .if3 .left) (c .before .before .before .before .before .if4 .left) _ _ (c .before .second .ensures) (c .before .before .before .first .given .1) (c .if5 .taken)
 
--- src/lib.rt:303:34
 walk-add-walk-3 : (t : ℕ) → walk-lts.Need-add-walk-3 (
   shape-at-reads.Asked,
   shape-at-reads.Learnt,
@@ -263,7 +248,6 @@ walk-add-walk-3 : (t : ℕ) → walk-lts.Need-add-walk-3 (
 ) (walk-at t) walk.Post
 walk-add-walk-3 t c = search needs
 
--- src/lib.rt:303:9
 walk-walk-requires-2 : (t : ℕ) → walk-lts.Need-walk-requires-2 (
   shape-at-reads.Asked,
   shape-at-reads.Learnt,
@@ -278,7 +262,6 @@ walk-walk-requires-2 : (t : ℕ) → walk-lts.Need-walk-requires-2 (
 ) (walk-at t) walk.Post
 walk-walk-requires-2 t c κs = omega (arith, c .before .before .before .before .before .before .before .before .before .before .before .before .before .before .before .pre, deeper (c .before .before .before .before .before .before .before .before .before .before .before .before .before .before .before .args .words .now) (c .before .before .before .before .before .before .before .before .before .before .before .before .before .before .before .args .body) (c .before .before .before .before .before .before .before .before .before .before .before .before .before .before .before .args .level) (c .before .before .before .before .before .before .before .before .before .before .before .before .before .before .before .args .p) (c .before .before .before .before .before .before .before .before .before .before .before .before .before .before .before .args .k) (c .before .before .before .before .before .before .before .before .before .before .before .before .if1 .left) _ (c .before .before .before .before .before .before .before .before .before .before .before .shape-at .ensures) _ (c .before .before .before .before .before .before .before .before .before .before .number .ensures) (c .before .before .before .before .before .before .before .before .before .if2 .left) (c .before .before .before .before .before .before .before .before .before .before .before .before .before .before .before .pre .1 .1), within-b (c .before .before .before .before .before .before .before .before .before .before .before .before .before .before .before .args .words .now) (c .before .before .before .before .before .before .before .before .before .before .before .before .before .before .before .args .body) (c .before .before .before .before .before .before .before .before .before .before .before .before .before .before .before .args .level) (c .before .before .before .before .before .before .before .before .before .before .before .before .before .before .before .args .p) (c .before .before .before .before .before .before .before .before .before .before .before .before .before .before .before .args .k) (c .before .before .before .before .before .before .before .before .before .before .before .before .if1 .left) _ (c .before .before .before .before .before .before .before .before .before .before .before .shape-at .ensures) _ (c .before .before .before .before .before .before .before .before .before .before .number .ensures) (c .before .before .before .before .before .before .before .before .before .if2 .left) _ (c .before .before .before .before .before .before .before .walk .ensures) (c .before .before .before .before .before .before .before .before .if3 .left) (c .before .before .before .before .before .before .if4 .left) _ _ (c .before .before .second .ensures) (c .before .before .before .before .first .given .1) (c .before .if5 .left))
 
--- src/lib.rt:303:9
 walk-returns-7 : (t : ℕ) → walk-lts.Need-returns-7 (
   shape-at-reads.Asked,
   shape-at-reads.Learnt,
@@ -293,7 +276,6 @@ walk-returns-7 : (t : ℕ) → walk-lts.Need-returns-7 (
 ) (walk-at t) walk.Post
 walk-returns-7 t c = walks-two _ _ _ _ _ (c .before .before .before .before .before .before .before .before .before .before .before .before .before .if1 .left) _ (c .before .before .before .before .before .before .before .before .before .before .before .before .shape-at .ensures) _ (c .before .before .before .before .before .before .before .before .before .before .before .number .ensures) (c .before .before .before .before .before .before .before .before .before .before .if2 .left) _ (c .before .before .before .before .before .before .before .before .walk .ensures) (c .before .before .before .before .before .before .before .before .before .if3 .left) (c .before .before .before .before .before .before .before .if4 .left) _ _ (c .before .before .before .second .ensures) (c .before .before .before .before .before .first .given .1) (c .before .before .if5 .left) (c .before .if6 .taken) _ (c .walk2 .ensures)
 
--- src/lib.rt:305:36
 walk-add-walk-4 : (t : ℕ) → walk-lts.Need-add-walk-4 (
   shape-at-reads.Asked,
   shape-at-reads.Learnt,
@@ -308,7 +290,6 @@ walk-add-walk-4 : (t : ℕ) → walk-lts.Need-add-walk-4 (
 ) (walk-at t) walk.Post
 walk-add-walk-4 t c = search needs
 
--- src/lib.rt:305:9
 walk-walk-requires-3 : (t : ℕ) → walk-lts.Need-walk-requires-3 (
   shape-at-reads.Asked,
   shape-at-reads.Learnt,
@@ -323,7 +304,6 @@ walk-walk-requires-3 : (t : ℕ) → walk-lts.Need-walk-requires-3 (
 ) (walk-at t) walk.Post
 walk-walk-requires-3 t c κs = omega (arith, c .before .before .before .before .before .before .before .before .before .before .before .before .before .before .before .pre, deeper (c .before .before .before .before .before .before .before .before .before .before .before .before .before .before .before .args .words .now) (c .before .before .before .before .before .before .before .before .before .before .before .before .before .before .before .args .body) (c .before .before .before .before .before .before .before .before .before .before .before .before .before .before .before .args .level) (c .before .before .before .before .before .before .before .before .before .before .before .before .before .before .before .args .p) (c .before .before .before .before .before .before .before .before .before .before .before .before .before .before .before .args .k) (c .before .before .before .before .before .before .before .before .before .before .before .before .if1 .left) _ (c .before .before .before .before .before .before .before .before .before .before .before .shape-at .ensures) _ (c .before .before .before .before .before .before .before .before .before .before .number .ensures) (c .before .before .before .before .before .before .before .before .before .if2 .left) (c .before .before .before .before .before .before .before .before .before .before .before .before .before .before .before .pre .1 .1), within-b (c .before .before .before .before .before .before .before .before .before .before .before .before .before .before .before .args .words .now) (c .before .before .before .before .before .before .before .before .before .before .before .before .before .before .before .args .body) (c .before .before .before .before .before .before .before .before .before .before .before .before .before .before .before .args .level) (c .before .before .before .before .before .before .before .before .before .before .before .before .before .before .before .args .p) (c .before .before .before .before .before .before .before .before .before .before .before .before .before .before .before .args .k) (c .before .before .before .before .before .before .before .before .before .before .before .before .if1 .left) _ (c .before .before .before .before .before .before .before .before .before .before .before .shape-at .ensures) _ (c .before .before .before .before .before .before .before .before .before .before .number .ensures) (c .before .before .before .before .before .before .before .before .before .if2 .left) _ (c .before .before .before .before .before .before .before .walk .ensures) (c .before .before .before .before .before .before .before .before .if3 .left) (c .before .before .before .before .before .before .if4 .left) _ _ (c .before .before .second .ensures) (c .before .before .before .before .first .given .1) (c .before .if5 .left))
 
--- src/lib.rt:306:21
 walk-enum-known-middle : (t : ℕ) → walk-lts.Need-enum-known-middle (
   shape-at-reads.Asked,
   shape-at-reads.Learnt,
@@ -338,7 +318,6 @@ walk-enum-known-middle : (t : ℕ) → walk-lts.Need-enum-known-middle (
 ) (walk-at t) walk.Post
 walk-enum-known-middle t c = search needs
 
--- src/lib.rt:307:9
 walk-enum-told-2 : (t : ℕ) → walk-lts.Need-enum-told-2 (
   shape-at-reads.Asked,
   shape-at-reads.Learnt,
@@ -353,7 +332,6 @@ walk-enum-told-2 : (t : ℕ) → walk-lts.Need-enum-told-2 (
 ) (walk-at t) walk.Post
 walk-enum-told-2 t c = search needs
 
--- src/lib.rt:307:9
 walk-returns-8 : (t : ℕ) → walk-lts.Need-returns-8 (
   shape-at-reads.Asked,
   shape-at-reads.Learnt,
@@ -368,7 +346,6 @@ walk-returns-8 : (t : ℕ) → walk-lts.Need-returns-8 (
 ) (walk-at t) walk.Post
 walk-returns-8 t c = walks-second _ _ _ _ _ (c .before .before .before .before .before .before .before .before .before .before .before .before .before .before .before .if1 .left) _ (c .before .before .before .before .before .before .before .before .before .before .before .before .before .before .shape-at .ensures) _ (c .before .before .before .before .before .before .before .before .before .before .before .before .before .number .ensures) (c .before .before .before .before .before .before .before .before .before .before .before .before .if2 .left) _ (c .before .before .before .before .before .before .before .before .before .before .walk .ensures) (c .before .before .before .before .before .before .before .before .before .before .before .if3 .left) (c .before .before .before .before .before .before .before .before .before .if4 .left) _ _ (c .before .before .before .before .before .second .ensures) (c .before .before .before .before .before .before .before .first .given .1) (c .before .before .before .before .if5 .left) (c .before .before .before .if6 .left) _ (c .before .before .walk3 .ensures) _ _ (c .enum-told2 .given .1)
 
--- src/lib.rt:309:9
 walk-third-requires : (t : ℕ) → walk-lts.Need-third-requires (
   shape-at-reads.Asked,
   shape-at-reads.Learnt,
@@ -383,7 +360,6 @@ walk-third-requires : (t : ℕ) → walk-lts.Need-third-requires (
 ) (walk-at t) walk.Post
 walk-third-requires t c κs = omega arith
 
--- src/lib.rt:311:9
 walk-returns-9 : (t : ℕ) → walk-lts.Need-returns-9 (
   shape-at-reads.Asked,
   shape-at-reads.Learnt,
@@ -398,7 +374,6 @@ walk-returns-9 : (t : ℕ) → walk-lts.Need-returns-9 (
 ) (walk-at t) walk.Post
 walk-returns-9 t c = walks-c _ _ _ _ _ (c .before .before .before .before .before .before .before .before .before .before .before .before .before .before .before .before .before .before .if1 .left) _ (c .before .before .before .before .before .before .before .before .before .before .before .before .before .before .before .before .before .shape-at .ensures) _ (c .before .before .before .before .before .before .before .before .before .before .before .before .before .before .before .before .number .ensures) (c .before .before .before .before .before .before .before .before .before .before .before .before .before .before .before .if2 .left) _ (c .before .before .before .before .before .before .before .before .before .before .before .before .before .walk .ensures) (c .before .before .before .before .before .before .before .before .before .before .before .before .before .before .if3 .left) (c .before .before .before .before .before .before .before .before .before .before .before .before .if4 .left) _ _ (c .before .before .before .before .before .before .before .before .second .ensures) (c .before .before .before .before .before .before .before .before .before .before .first .given .1) (c .before .before .before .before .before .before .before .if5 .left) (c .before .before .before .before .before .before .if6 .left) _ (c .before .before .before .before .before .walk3 .ensures) _ _ (c .before .third .ensures) (c .before .before .before .middle .given .1) (c .if7 .taken)
 
--- src/lib.rt:313:23
 walk-add-walk-5 : (t : ℕ) → walk-lts.Need-add-walk-5 (
   shape-at-reads.Asked,
   shape-at-reads.Learnt,
@@ -413,7 +388,6 @@ walk-add-walk-5 : (t : ℕ) → walk-lts.Need-add-walk-5 (
 ) (walk-at t) walk.Post
 walk-add-walk-5 t c = omega (arith, c .before .before .before .before .before .before .before .before .before .before .before .before .before .before .before .before .before .before .before .before .before .pre)
 
--- src/lib.rt:313:5
 walk-walk-requires-4 : (t : ℕ) → walk-lts.Need-walk-requires-4 (
   shape-at-reads.Asked,
   shape-at-reads.Learnt,
@@ -428,7 +402,6 @@ walk-walk-requires-4 : (t : ℕ) → walk-lts.Need-walk-requires-4 (
 ) (walk-at t) walk.Post
 walk-walk-requires-4 t c κs = omega (arith, c .before .before .before .before .before .before .before .before .before .before .before .before .before .before .before .before .before .before .before .before .before .pre, deeper (c .before .before .before .before .before .before .before .before .before .before .before .before .before .before .before .before .before .before .before .before .before .args .words .now) (c .before .before .before .before .before .before .before .before .before .before .before .before .before .before .before .before .before .before .before .before .before .args .body) (c .before .before .before .before .before .before .before .before .before .before .before .before .before .before .before .before .before .before .before .before .before .args .level) (c .before .before .before .before .before .before .before .before .before .before .before .before .before .before .before .before .before .before .before .before .before .args .p) (c .before .before .before .before .before .before .before .before .before .before .before .before .before .before .before .before .before .before .before .before .before .args .k) (c .before .before .before .before .before .before .before .before .before .before .before .before .before .before .before .before .before .before .if1 .left) _ (c .before .before .before .before .before .before .before .before .before .before .before .before .before .before .before .before .before .shape-at .ensures) _ (c .before .before .before .before .before .before .before .before .before .before .before .before .before .before .before .before .number .ensures) (c .before .before .before .before .before .before .before .before .before .before .before .before .before .before .before .if2 .left) (c .before .before .before .before .before .before .before .before .before .before .before .before .before .before .before .before .before .before .before .before .before .pre .1 .1), within-c (c .before .before .before .before .before .before .before .before .before .before .before .before .before .before .before .before .before .before .before .before .before .args .words .now) (c .before .before .before .before .before .before .before .before .before .before .before .before .before .before .before .before .before .before .before .before .before .args .body) (c .before .before .before .before .before .before .before .before .before .before .before .before .before .before .before .before .before .before .before .before .before .args .level) (c .before .before .before .before .before .before .before .before .before .before .before .before .before .before .before .before .before .before .before .before .before .args .p) (c .before .before .before .before .before .before .before .before .before .before .before .before .before .before .before .before .before .before .before .before .before .args .k) (c .before .before .before .before .before .before .before .before .before .before .before .before .before .before .before .before .before .before .if1 .left) _ (c .before .before .before .before .before .before .before .before .before .before .before .before .before .before .before .before .before .shape-at .ensures) _ (c .before .before .before .before .before .before .before .before .before .before .before .before .before .before .before .before .number .ensures) (c .before .before .before .before .before .before .before .before .before .before .before .before .before .before .before .if2 .left) _ (c .before .before .before .before .before .before .before .before .before .before .before .before .before .walk .ensures) (c .before .before .before .before .before .before .before .before .before .before .before .before .before .before .if3 .left) (c .before .before .before .before .before .before .before .before .before .before .before .before .if4 .left) _ _ (c .before .before .before .before .before .before .before .before .second .ensures) (c .before .before .before .before .before .before .before .before .before .before .first .given .1) (c .before .before .before .before .before .before .before .if5 .left) (c .before .before .before .before .before .before .if6 .left) _ (c .before .before .before .before .before .walk3 .ensures) _ _ (c .before .third .ensures) (c .before .before .before .middle .given .1) (c .if7 .left))
 
--- src/lib.rt:274:1
 walk-returns-10 : (t : ℕ) → walk-lts.Need-returns-10 (
   shape-at-reads.Asked,
   shape-at-reads.Learnt,

@@ -1,18 +1,14 @@
-use Prim.Native.Nat.{_≤_, _-_, _+_}
-use mathlib.Core.Path.{_≡_, refl, sym, _∙_, ap}
+-- `table::bodies_read` meets its contract, by the laws of Bodies, InOrder.
+use Prim.Native.Nat.{_≤_, _-_}
+use mathlib.Core.Path.{_≡_, sym, _∙_}
 use native.Mathlib.Omega.{arith}
 use borrow.Author.Needs.{needs}
-use Rattle.table.specs.Words.{functions as functionsOf, nodesAt, nodesBefore, startOf}
+use Rattle.table.specs.Words.{functions as functionsOf, nodesBefore, startOf}
 use Rattle.table.specs.Read.{bodyRead, bodies}
 use Rattle.table.proofs.Bodies.{nodes-next, body-inside}
 use Rattle.table.proofs.InOrder.{Reached, reached-start, reached-next, reached-stop, reached-end}
 use Rattle.table.proofs.bodies_read.Statement.{statement}
 use Rattle.table.proofs.bodies_read.Tie as tie
-use Rattle.table.proofs.bodies_read.Reads as reads
-use Rattle.table.proofs.bodies_read.Lts as lts
-use Rattle.table.proofs.body_read.Reads as body-read-reads
-use Rattle.table.proofs.nodes.Reads as nodes-reads
-use Rattle.table.proofs.wide.Reads as wide-reads
 
 abbrev Inv-loop : tie.InvT-loop
 Inv-loop words functions start₀ f₀ start f = (f ≤ functionsOf words) × (start ≡ startOf words f) × Reached (bodyRead words) (functionsOf words) f
@@ -20,66 +16,52 @@ Inv-loop words functions start₀ f₀ start f = (f ≤ functionsOf words) × (s
 abbrev μ-loop : tie.MeasureT-loop
 μ-loop words functions start₀ f₀ start f = functions - f
 
--- src/lib.rt:418:26
 shared-slice-read-wide : tie.Need-shared-slice-read-wide Inv-loop μ-loop
 shared-slice-read-wide c = omega arith
 
--- src/lib.rt:418:9
 wide-requires : tie.Need-wide-requires Inv-loop μ-loop
 wide-requires c κs = search needs
 
--- src/lib.rt:419:25
 mul-start : tie.Need-mul-start Inv-loop μ-loop
 mul-start c = omega arith
 
--- src/lib.rt:419:21
 add-start : tie.Need-add-start Inv-loop μ-loop
 add-start c = omega arith
 
--- src/lib.rt:421:5
 loop-holds : tie.Need-loop-holds Inv-loop μ-loop
 unfolding nodesBefore
 loop-holds c = (omega arith, omega arith, reached-start _ _)
 
--- src/lib.rt:422:13
 body-read-requires : tie.Need-body-read-requires Inv-loop μ-loop
 body-read-requires c κs = record { contents = c .before .before .before .before .before .pre; function = omega arith; place = c .before .loop .inv .1 }
 
 enum-told : tie.Need-enum-told Inv-loop μ-loop
 enum-told c = search needs
 
--- src/lib.rt:424:13
 enum-told-2 : tie.Need-enum-told-2 Inv-loop μ-loop
 enum-told-2 c = search needs
 
--- src/lib.rt:424:13
 returns : tie.Need-returns Inv-loop μ-loop
 unfolding bodies
 returns c = let w = c .before .before .before .before .before .before .before .before .args .words .now in
     let a = c .enum-told2 .given .1 in
     a ∙ sym (reached-stop (bodyRead w) _ (c .before .before .before .before .loop .f) (omega arith) (c .before .before .before .before .loop .inv .2) _ (c .before .before .body-read .ensures) _ a)
 
--- src/lib.rt:426:22
 nodes-requires : tie.Need-nodes-requires Inv-loop μ-loop
 nodes-requires c κs = omega arith
 
--- src/lib.rt:426:18
 mul-start-2 : tie.Need-mul-start-2 Inv-loop μ-loop
 mul-start-2 c = omega (arith, body-inside (c .before .before .before .before .before .before .before .before .before .args .words .now) (c .before .before .before .before .before .before .before .before .before .pre) (c .before .before .before .before .before .loop .f) (omega arith))
 
--- src/lib.rt:426:9
 add-start-2 : tie.Need-add-start-2 Inv-loop μ-loop
 add-start-2 c = omega (arith, body-inside (c .before .before .before .before .before .before .before .before .before .args .words .now) (c .before .before .before .before .before .before .before .before .before .pre) (c .before .before .before .before .before .loop .f) (omega arith))
 
--- src/lib.rt:427:9
 add-f : tie.Need-add-f Inv-loop μ-loop
 add-f c = omega arith
 
--- src/lib.rt:421:5
 loop-less : tie.Need-loop-less Inv-loop μ-loop
 loop-less c = omega arith
 
--- src/lib.rt:421:5
 loop-again : tie.Need-loop-again Inv-loop μ-loop
 loop-again c = let w = c .before .before .before .before .before .before .before .before .before .args .words .now in
     let f = c .before .before .before .before .before .loop .f in (
@@ -88,7 +70,6 @@ loop-again c = let w = c .before .before .before .before .before .before .before
       reached-next (bodyRead w) _ f (omega arith) (c .before .before .before .before .before .loop .inv .2) _ (c .before .before .before .body-read .ensures) (c .before .enum-told .given .1),
     )
 
--- src/lib.rt:414:1
 returns-2 : tie.Need-returns-2 Inv-loop μ-loop
 unfolding bodies
 returns-2 c = sym (reached-end (bodyRead (c .before .before .before .before .before .args .words .now)) _ _ (omega arith) (c .before .loop .inv .2))

@@ -1,4 +1,5 @@
-use mathlib.Core.Path.{_≡_, refl, sym, _∙_, ap}
+-- `table::body_read` meets its contract, by the laws of Acceptance, Bodies.
+use mathlib.Core.Path.{_∙_}
 use native.Mathlib.Omega.{arith}
 use borrow.Author.Tests.{eq-eqb, ne-eqb}
 use Rattle.table.specs.Read.{rootOf}
@@ -7,54 +8,38 @@ use Rattle.table.proofs.Bodies.{body-inside}
 use borrow.Author.Needs.{needs}
 use Rattle.table.proofs.body_read.Statement.{statement}
 use Rattle.table.proofs.body_read.Tie as tie
-use Rattle.table.proofs.body_read.Reads as reads
-use Rattle.table.proofs.body_read.Lts as lts
-use Rattle.table.proofs.arity.Reads as arity-reads
-use Rattle.table.proofs.nodes.Reads as nodes-reads
-use Rattle.table.proofs.refuse.Reads as refuse-reads
-use Rattle.table.proofs.walk.Reads as walk-reads
 
--- src/lib.rt:399:9
 nodes-requires : tie.Need-nodes-requires
 nodes-requires c κs = omega arith
 
--- src/lib.rt:400:62
 arity-requires : tie.Need-arity-requires
 arity-requires c κs = omega arith
 
--- src/lib.rt:400:9
 walk-requires : tie.Need-walk-requires
 walk-requires c κs = let w = c .before .before .before .args .words .now in
     let l = c .before .before .before .pre in
     omega (arith, body-inside w (l .contents) (c .before .before .before .args .f) (l .function), l .contents .entries (c .before .before .before .args .f) (l .function) .arity)
 
--- src/lib.rt:402:21
 enum-known-walked : tie.Need-enum-known-walked
 enum-known-walked c = search needs
 
--- src/lib.rt:406:17
 refuse-requires : tie.Need-refuse-requires
 refuse-requires c κs = search needs
 
--- src/lib.rt:409:23
 enum-known-walked-2 : tie.Need-enum-known-walked-2
 enum-known-walked-2 c = search needs
 
--- src/lib.rt:409:37
 refuse-requires-2 : tie.Need-refuse-requires-2
 refuse-requires-2 c κs = search needs
 
--- src/lib.rt:395:1
 returns : tie.Need-returns
 unfolding rootOf
 returns c = rw (c .before .before .walked .given .1, eq-eqb _ _ (c .if1 .taken)) at (body-answer (c .before .before .before .before .before .before .before .before .args .words .now) (c .before .before .before .before .before .before .before .before .args .f) _ _ _ (c .before .before .before .before .before .before .before .before .pre .place) (c .before .before .before .before .before .before .nodes .ensures) (c .before .before .before .before .before .arity .ensures) _ (c .before .before .before .before .walk .ensures))
 
--- src/lib.rt:395:1
 returns-2 : tie.Need-returns-2
 unfolding rootOf
 returns-2 c = c .refuse .ensures ∙ (rw (c .before .before .before .walked .given .1, ne-eqb _ _ (c .before .if1 .left)) at (body-answer (c .before .before .before .before .before .before .before .before .before .args .words .now) (c .before .before .before .before .before .before .before .before .before .args .f) _ _ _ (c .before .before .before .before .before .before .before .before .before .pre .place) (c .before .before .before .before .before .before .before .nodes .ensures) (c .before .before .before .before .before .before .arity .ensures) _ (c .before .before .before .before .before .walk .ensures)))
 
--- src/lib.rt:395:1
 returns-3 : tie.Need-returns-3
 unfolding rootOf
 returns-3 c = c .refuse2 .ensures ∙ (rw (c .before .before .walked2 .given .1) at (body-answer (c .before .before .before .before .before .before .before .before .args .words .now) (c .before .before .before .before .before .before .before .before .args .f) _ _ _ (c .before .before .before .before .before .before .before .before .pre .place) (c .before .before .before .before .before .before .nodes .ensures) (c .before .before .before .before .before .arity .ensures) _ (c .before .before .before .before .walk .ensures)))

@@ -1,37 +1,29 @@
+-- `table::call_clear` meets its contract, by the laws of Tags.
 use Rattle.table.proofs.Tags.{full-call}
 use Rattle.table.specs.Walk.{unusedOf}
 use native.Mathlib.Omega.{arith}
 use borrow.Author.Needs.{needs}
 use Rattle.table.proofs.call_clear.Statement.{statement}
 use Rattle.table.proofs.call_clear.Tie as tie
-use Rattle.table.proofs.call_clear.Reads as reads
-use Rattle.table.proofs.call_clear.Lts as lts
-use Rattle.table.proofs.both_zero.Reads as both-zero-reads
 
--- src/lib.rt:185:14
 both-zero-requires : tie.Need-both-zero-requires
 both-zero-requires c κs = search needs
 
--- src/lib.rt:186:14
 both-zero-requires-2 : tie.Need-both-zero-requires-2
 both-zero-requires-2 c κs = search needs
 
--- src/lib.rt:181:1
 returns : tie.Need-returns
 unfolding unusedOf
 returns c = rw (c .before .match .keys1, c .both-zero .ensures)
 
--- src/lib.rt:181:1
 returns-2 : tie.Need-returns-2
 unfolding unusedOf
 returns-2 c = rw (c .before .match .keys2, c .both-zero2 .ensures)
 
--- src/lib.rt:181:1
 returns-3 : tie.Need-returns-3
 unfolding unusedOf
 returns-3 c = rw (c .match .keys3)
 
--- src/lib.rt:181:1
 returns-4 : tie.Need-returns-4
 returns-4 c = full-call _ _ _ (omega arith)
 

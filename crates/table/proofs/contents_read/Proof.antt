@@ -1,5 +1,6 @@
+-- `table::contents_read` meets its contract, by the laws of Bodies, InOrder, Acceptance.
 use mathlib.Core.Path.{ap}
-use Prim.Native.Nat.{_≤_, _-_, _+_}
+use Prim.Native.Nat.{_≤_, _-_}
 use mathlib.Core.Path.{_≡_, refl, sym, _∙_}
 use native.Mathlib.Omega.{arith}
 use borrow.Author.Needs.{needs}
@@ -10,12 +11,6 @@ use Rattle.table.proofs.InOrder.{Reached, reached-start, reached-next, 
 use Rattle.table.proofs.Acceptance.{entry-iff, contents-stop, contents-long, contents-good}
 use Rattle.table.proofs.contents_read.Statement.{statement}
 use Rattle.table.proofs.contents_read.Tie as tie
-use Rattle.table.proofs.contents_read.Reads as reads
-use Rattle.table.proofs.contents_read.Lts as lts
-use Rattle.table.proofs.entry_read.Reads as entry-read-reads
-use Rattle.table.proofs.refuse.Reads as refuse-reads
-use Rattle.table.proofs.running_sum.Reads as running-sum-reads
-use Rattle.table.proofs.wide.Reads as wide-reads
 
 abbrev Inv-loop : tie.InvT-loop
 Inv-loop words functions sum₀ f₀ sum f = (f ≤ functionsOf words) × (sum ≡ nodesBefore words f) × (sum ≤ 4000) × Reached (entry words) (functionsOf words) f
@@ -23,65 +18,51 @@ Inv-loop words functions sum₀ f₀ sum f = (f ≤ functionsOf words) × (sum �
 abbrev μ-loop : tie.MeasureT-loop
 μ-loop words functions sum₀ f₀ sum f = functions - f
 
--- src/lib.rt:376:26
 shared-slice-read-wide : tie.Need-shared-slice-read-wide Inv-loop μ-loop
 shared-slice-read-wide c = omega arith
 
--- src/lib.rt:376:9
 wide-requires : tie.Need-wide-requires Inv-loop μ-loop
 wide-requires c κs = search needs
 
--- src/lib.rt:379:5
 loop-holds : tie.Need-loop-holds Inv-loop μ-loop
 unfolding nodesBefore
 loop-holds c = (omega arith, refl, omega arith, reached-start _ _)
 
--- src/lib.rt:380:38
 mul-running-sum : tie.Need-mul-running-sum Inv-loop μ-loop
 mul-running-sum c = omega arith
 
--- src/lib.rt:380:38
 add-running-sum : tie.Need-add-running-sum Inv-loop μ-loop
 add-running-sum c = omega arith
 
--- src/lib.rt:380:32
 mul-running-sum-2 : tie.Need-mul-running-sum-2 Inv-loop μ-loop
 mul-running-sum-2 c = omega arith
 
--- src/lib.rt:380:32
 shared-slice-read-running-sum : tie.Need-shared-slice-read-running-sum Inv-loop μ-loop
 shared-slice-read-running-sum c = omega arith
 
--- src/lib.rt:380:9
 running-sum-requires : tie.Need-running-sum-requires Inv-loop μ-loop
 running-sum-requires c κs = omega arith
 
--- src/lib.rt:381:13
 entry-read-requires : tie.Need-entry-read-requires Inv-loop μ-loop
 entry-read-requires c κs = omega arith
 
 enum-told : tie.Need-enum-told Inv-loop μ-loop
 enum-told c = search needs
 
--- src/lib.rt:383:13
 enum-told-2 : tie.Need-enum-told-2 Inv-loop μ-loop
 enum-told-2 c = search needs
 
--- src/lib.rt:383:13
 returns : tie.Need-returns Inv-loop μ-loop
 returns c = let w = c .before .before .before .before .before .before .before .before .before .before .args .words .now in
     let a = c .enum-told2 .given .1 in
     a ∙ contents-stop w _ (reached-stop (entry w) _ (c .before .before .before .before .before .before .loop .f) (omega arith) (c .before .before .before .before .before .before .loop .inv .3) _ (c .before .before .entry-read .ensures) _ a)
 
--- src/lib.rt:385:9
 add-f : tie.Need-add-f Inv-loop μ-loop
 add-f c = omega arith
 
--- src/lib.rt:379:5
 loop-less : tie.Need-loop-less Inv-loop μ-loop
 loop-less c = omega arith
 
--- src/lib.rt:379:5
 loop-again : tie.Need-loop-again Inv-loop μ-loop
 loop-again c = let w = c .before .before .before .before .before .before .before .before .before .before .args .words .now in
     let f = c .before .before .before .before .before .before .loop .f in
@@ -93,34 +74,27 @@ loop-again c = let w = c .before .before .before .before .before .before .before
       reached-next (entry w) _ f (omega arith) (c .before .before .before .before .before .before .loop .inv .3) _ e a,
     )
 
--- src/lib.rt:387:27
 mul-if1 : tie.Need-mul-if1 Inv-loop μ-loop
 mul-if1 c = omega arith
 
--- src/lib.rt:387:23
 add-if1 : tie.Need-add-if1 Inv-loop μ-loop
 add-if1 c = omega arith
 
--- src/lib.rt:387:43
 mul-if1-2 : tie.Need-mul-if1-2 Inv-loop μ-loop
 mul-if1-2 c = omega arith
 
--- src/lib.rt:387:23
 add-if1-2 : tie.Need-add-if1-2 Inv-loop μ-loop
 add-if1-2 c = omega arith
 
--- src/lib.rt:388:9
 refuse-requires : tie.Need-refuse-requires Inv-loop μ-loop
 refuse-requires c κs = search needs
 
--- src/lib.rt:388:9
 returns-2 : tie.Need-returns-2 Inv-loop μ-loop
 returns-2 c = let w = c .before .before .before .before .before .before .before .args .words .now in
     let x : c .before .before .before .loop .f ≡ functionsOf w = omega arith in
     let s = c .before .before .before .loop .inv .1 ∙ ap (nodesBefore w) x in
     c .refuse .ensures ∙ contents-long w (reached-end (entry w) _ _ (omega arith) (c .before .before .before .loop .inv .3)) (λ e. c .before .if1 .taken (omega arith))
 
--- src/lib.rt:372:1
 returns-3 : tie.Need-returns-3 Inv-loop μ-loop
 returns-3 c = let w = c .before .before .before .before .before .before .args .words .now in
     let x : c .before .before .loop .f ≡ functionsOf w = omega arith in

@@ -1,51 +1,37 @@
+-- `table::entry_read` meets its contract.
 use Rattle.table.specs.Read.{entry}
 use borrow.Author.Tests.{le-leb, lt-leb}
-use mathlib.Core.Path.{_≡_, refl}
 use borrow.Author.Needs.{needs}
 use Rattle.table.proofs.entry_read.Statement.{statement}
 use Rattle.table.proofs.entry_read.Tie as tie
-use Rattle.table.proofs.entry_read.Reads as reads
-use Rattle.table.proofs.entry_read.Lts as lts
-use Rattle.table.proofs.arity.Reads as arity-reads
-use Rattle.table.proofs.nodes.Reads as nodes-reads
-use Rattle.table.proofs.refuse.Reads as refuse-reads
 
--- src/lib.rt:359:12
 arity-requires : tie.Need-arity-requires
 arity-requires c κs = search needs
 
--- src/lib.rt:360:9
 refuse-requires : tie.Need-refuse-requires
 refuse-requires c κs = search needs
 
--- src/lib.rt:360:9
 returns : tie.Need-returns
 unfolding entry
 returns c = rw (← c .before .before .arity .ensures, lt-leb _ _ (c .before .if1 .taken)) (c .refuse .ensures)
 
--- src/lib.rt:362:8
 nodes-requires : tie.Need-nodes-requires
 nodes-requires c κs = search needs
 
--- src/lib.rt:363:9
 refuse-requires-2 : tie.Need-refuse-requires-2
 refuse-requires-2 c κs = search needs
 
--- src/lib.rt:363:9
 returns-2 : tie.Need-returns-2
 unfolding entry
 returns-2 c = rw (← c .before .before .before .before .arity .ensures, le-leb _ _ (c .before .before .before .if1 .left), ← c .before .before .nodes .ensures, lt-leb _ _ (c .before .if2 .taken)) (c .refuse2 .ensures)
 
--- src/lib.rt:366:9
 refuse-requires-3 : tie.Need-refuse-requires-3
 refuse-requires-3 c κs = search needs
 
--- src/lib.rt:366:9
 returns-3 : tie.Need-returns-3
 unfolding entry
 returns-3 c = rw (← c .before .before .before .before .before .arity .ensures, le-leb _ _ (c .before .before .before .before .if1 .left), ← c .before .before .before .before .before .before .before .pre .1, lt-leb _ _ (c .before .if3 .taken), ← c .before .before .before .nodes .ensures, le-leb _ _ (c .before .before .if2 .left)) (c .refuse3 .ensures)
 
--- src/lib.rt:355:1
 returns-4 : tie.Need-returns-4
 unfolding entry
 returns-4 c = rw (← c .before .before .before .before .arity .ensures, le-leb _ _ (c .before .before .before .if1 .left), ← c .before .before .before .before .before .before .pre .1, le-leb _ _ (c .if3 .left), ← c .before .before .nodes .ensures, le-leb _ _ (c .before .if2 .left))

@@ -1,67 +1,50 @@
+-- `table::header_read` meets its contract.
 use Rattle.table.specs.Read.{header}
 use borrow.Author.Tests.{le-leb, lt-leb}
-use mathlib.Core.Path.{_≡_, refl}
 use borrow.Author.Needs.{needs}
 use Rattle.table.proofs.header_read.Statement.{statement}
 use Rattle.table.proofs.header_read.Tie as tie
-use Rattle.table.proofs.header_read.Reads as reads
-use Rattle.table.proofs.header_read.Lts as lts
-use Rattle.table.proofs.refuse.Reads as refuse-reads
-use Rattle.table.proofs.wide.Reads as wide-reads
 
--- src/lib.rt:331:9
 refuse-requires : tie.Need-refuse-requires
 refuse-requires c κs = search needs
 
--- src/lib.rt:331:9
 returns : tie.Need-returns
 unfolding header
 returns c = rw (lt-leb _ _ (c .before .if1 .taken)) (c .refuse .ensures)
 
--- src/lib.rt:333:26
 shared-slice-read-wide : tie.Need-shared-slice-read-wide
 shared-slice-read-wide c = search needs
 
--- src/lib.rt:333:9
 wide-requires : tie.Need-wide-requires
 wide-requires c κs = search needs
 
--- src/lib.rt:335:9
 refuse-requires-2 : tie.Need-refuse-requires-2
 refuse-requires-2 c κs = search needs
 
--- src/lib.rt:335:9
 returns-2 : tie.Need-returns-2
 unfolding header
 returns-2 c = rw (le-leb _ _ (c .before .before .before .before .if1 .left), ← c .before .before .wide .ensures, lt-leb _ _ (c .before .if2 .taken)) (c .refuse2 .ensures)
 
--- src/lib.rt:338:9
 refuse-requires-3 : tie.Need-refuse-requires-3
 refuse-requires-3 c κs = search needs
 
--- src/lib.rt:338:9
 returns-3 : tie.Need-returns-3
 unfolding header
 returns-3 c = rw (le-leb _ _ (c .before .before .before .before .before .if1 .left), ← c .before .before .before .wide .ensures, le-leb _ _ (c .before .before .if2 .left), lt-leb _ _ (c .before .if3 .taken)) (c .refuse3 .ensures)
 
--- src/lib.rt:340:26
 mul-if4 : tie.Need-mul-if4
 mul-if4 c = search needs
 
--- src/lib.rt:340:22
 add-if4 : tie.Need-add-if4
 add-if4 c = search needs
 
--- src/lib.rt:341:9
 refuse-requires-4 : tie.Need-refuse-requires-4
 refuse-requires-4 c κs = search needs
 
--- src/lib.rt:341:9
 returns-4 : tie.Need-returns-4
 unfolding header
 returns-4 c = rw (le-leb _ _ (c .before .before .before .before .before .before .if1 .left), ← c .before .before .before .before .wide .ensures, le-leb _ _ (c .before .before .before .if2 .left), le-leb _ _ (c .before .before .if3 .left), lt-leb _ _ (c .before .if4 .taken)) (c .refuse4 .ensures)
 
--- src/lib.rt:327:1
 returns-5 : tie.Need-returns-5
 unfolding header
 returns-5 c = rw (le-leb _ _ (c .before .before .before .before .before .if1 .left), ← c .before .before .before .wide .ensures, le-leb _ _ (c .before .before .if2 .left), le-leb _ _ (c .before .if3 .left), le-leb _ _ (c .if4 .left))

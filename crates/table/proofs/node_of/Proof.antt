@@ -1,73 +1,54 @@
+-- `table::node_of` meets its contract, by the laws of Tags.
 use Rattle.table.proofs.Tags.{above-6}
 use Rattle.table.proofs.Tags.{no-tag}
 use Rattle.table.specs.Nodes.{nodeOf}
-use native.Mathlib.Omega.{arith}
-use mathlib.Core.Path.{_≡_, refl}
 use borrow.Author.Needs.{needs}
 use Rattle.table.proofs.node_of.Statement.{statement}
 use Rattle.table.proofs.node_of.Tie as tie
-use Rattle.table.proofs.node_of.Reads as reads
-use Rattle.table.proofs.node_of.Lts as lts
-use Rattle.table.proofs.arithmetic.Reads as arithmetic-reads
-use Rattle.table.proofs.join.Reads as join-reads
-use Rattle.table.proofs.wide.Reads as wide-reads
 
--- src/lib.rt:118:9
 wide-requires : tie.Need-wide-requires
 wide-requires c κs = search needs
 
--- src/lib.rt:119:9
 wide-requires-2 : tie.Need-wide-requires-2
 wide-requires-2 c κs = search needs
 
--- src/lib.rt:120:9
 wide-requires-3 : tie.Need-wide-requires-3
 wide-requires-3 c κs = search needs
 
--- src/lib.rt:122:29
 join-requires : tie.Need-join-requires
 join-requires c κs = search needs
 
--- src/lib.rt:124:14
 arithmetic-requires : tie.Need-arithmetic-requires
 arithmetic-requires c κs = search needs
 
--- src/lib.rt:115:1
 returns : tie.Need-returns
 unfolding nodeOf
 returns c = rw (c .before .match .keys1, c .join .ensures)
 
--- src/lib.rt:115:1
 returns-2 : tie.Need-returns-2
 unfolding nodeOf
 returns-2 c = rw (c .match .keys2, c .before .before .before .wide .ensures)
 
--- src/lib.rt:115:1
 returns-3 : tie.Need-returns-3
 unfolding nodeOf
 returns-3 c = rw (c .before .match .keys3, c .arithmetic .ensures, c .before .before .before .wide2 .ensures)
 
--- src/lib.rt:115:1
 returns-4 : tie.Need-returns-4
 unfolding nodeOf
 returns-4 c = rw (c .match .keys4, c .before .before .wide2 .ensures, c .before .wide3 .ensures)
 
--- src/lib.rt:115:1
 returns-5 : tie.Need-returns-5
 unfolding nodeOf
 returns-5 c = rw (c .match .keys5, c .before .before .wide2 .ensures)
 
--- src/lib.rt:115:1
 returns-6 : tie.Need-returns-6
 unfolding nodeOf
 returns-6 c = rw (c .match .keys6, c .before .before .before .wide .ensures, c .before .before .wide2 .ensures, c .before .wide3 .ensures)
 
--- src/lib.rt:115:1
 returns-7 : tie.Need-returns-7
 unfolding nodeOf
 returns-7 c = rw (c .match .keys7, c .before .before .wide2 .ensures, c .before .wide3 .ensures)
 
--- src/lib.rt:115:1
 returns-8 : tie.Need-returns-8
 returns-8 c = let r = c .match .rest in no-tag _ _ _ _ (above-6 _ (r .0 .0 .0 .0 .0 .0 .1) (r .0 .0 .0 .0 .0 .1) (r .0 .0 .0 .0 .1) (r .0 .0 .0 .1) (r .0 .0 .1) (r .0 .1) (r .1))
 

@@ -1,28 +1,21 @@
+-- `table::number` meets its contract.
 use borrow.Author.Tests.{not-true, not-false}
 use borrow.Author.Tests.{le-leb, lt-leb}
-use mathlib.Core.Path.{_≡_, refl}
 use Rattle.table.proofs.number.Statement.{statement}
 use Rattle.table.proofs.number.Tie as tie
-use Rattle.table.proofs.number.Reads as reads
-use Rattle.table.proofs.number.Lts as lts
 
--- src/lib.rt:262:9
 returns : tie.Need-returns
 returns c = rw (not-true (c .before .before .args .shape .known) (c .if1 .taken))
 
--- src/lib.rt:265:9
 returns-2 : tie.Need-returns-2
 returns-2 c = rw (not-false (c .before .before .before .before .args .shape .known) (c .before .before .if1 .left), not-true (c .before .before .before .before .args .shape .clear) (c .if2 .taken))
 
--- src/lib.rt:268:9
 returns-3 : tie.Need-returns-3
 returns-3 c = rw (not-false (c .before .before .before .before .before .before .args .shape .known) (c .before .before .before .before .if1 .left), not-false (c .before .before .before .before .before .before .args .shape .clear) (c .before .before .if2 .left), not-true (c .before .before .before .before .before .before .args .shape .bound) (c .if3 .taken))
 
--- src/lib.rt:258:1
 returns-4 : tie.Need-returns-4
 returns-4 c = rw (not-false (c .before .before .before .before .before .before .before .args .shape .known) (c .before .before .before .before .before .if1 .left), not-false (c .before .before .before .before .before .before .before .args .shape .clear) (c .before .before .before .if2 .left), not-false (c .before .before .before .before .before .before .before .args .shape .bound) (c .before .if3 .left), le-leb _ _ (c .if4 .taken))
 
--- src/lib.rt:258:1
 returns-5 : tie.Need-returns-5
 returns-5 c = rw (not-false (c .before .before .before .before .before .before .before .args .shape .known) (c .before .before .before .before .before .if1 .left), not-false (c .before .before .before .before .before .before .before .args .shape .clear) (c .before .before .before .if2 .left), not-false (c .before .before .before .before .before .before .before .args .shape .bound) (c .before .if3 .left), lt-leb _ _ (c .if4 .left))
 

@@ -1,49 +1,37 @@
-use mathlib.Core.Path.{_≡_, refl, sym, _∙_}
+-- `table::read` meets its contract, by the laws of Acceptance.
+use mathlib.Core.Path.{sym, _∙_}
 use Rattle.table.proofs.Acceptance.{header-iff, contents-iff, read-header, read-contents, read-bodies, promised}
 use borrow.Author.Needs.{needs}
 use Rattle.table.proofs.read.Statement.{statement}
 use Rattle.table.proofs.read.Tie as tie
-use Rattle.table.proofs.read.Reads as reads
-use Rattle.table.proofs.read.Lts as lts
-use Rattle.table.proofs.bodies_read.Reads as bodies-read-reads
-use Rattle.table.proofs.contents_read.Reads as contents-read-reads
-use Rattle.table.proofs.header_read.Reads as header-read-reads
 
--- src/lib.rt:437:9
 header-read-requires : tie.Need-header-read-requires
 header-read-requires c κs = search needs
 
 enum-told : tie.Need-enum-told
 enum-told c = search needs
 
--- src/lib.rt:439:9
 enum-told-2 : tie.Need-enum-told-2
 enum-told-2 c = search needs
 
--- src/lib.rt:439:9
 returns : tie.Need-returns
 returns c = let a = c .enum-told2 .given .1 in promised (c .before .before .before .before .args .words .now) _ (a ∙ read-header _ _ (sym (c .before .before .header-read .ensures) ∙ a))
 
--- src/lib.rt:441:9
 contents-read-requires : tie.Need-contents-read-requires
 contents-read-requires c κs = header-iff (c .before .before .before .before .args .words .now) .0 (sym (c .before .before .header-read .ensures) ∙ c .enum-told .given .1)
 
 enum-told-3 : tie.Need-enum-told-3
 enum-told-3 c = search needs
 
--- src/lib.rt:443:9
 enum-told-4 : tie.Need-enum-told-4
 enum-told-4 c = search needs
 
--- src/lib.rt:443:9
 returns-2 : tie.Need-returns-2
 returns-2 c = let a = c .enum-told4 .given .1 in promised (c .before .before .before .before .before .before .before .args .words .now) _ (a ∙ read-contents _ _ (sym (c .before .before .before .before .before .header-read .ensures) ∙ c .before .before .before .enum-told .given .1) (sym (c .before .before .contents-read .ensures) ∙ a))
 
--- src/lib.rt:445:5
 bodies-read-requires : tie.Need-bodies-read-requires
 bodies-read-requires c κs = contents-iff (c .before .before .before .before .before .before .before .args .words .now) .0 (sym (c .before .before .before .before .before .header-read .ensures) ∙ c .before .before .before .enum-told .given .1, sym (c .before .before .contents-read .ensures) ∙ c .enum-told3 .given .1)
 
--- src/lib.rt:433:1
 returns-3 : tie.Need-returns-3
 returns-3 c = promised (c .before .before .before .before .before .before .before .before .args .words .now) _ (c .bodies-read .ensures ∙ read-bodies _ (sym (c .before .before .before .before .before .before .header-read .ensures) ∙ c .before .before .before .before .enum-told .given .1) (sym (c .before .before .before .contents-read .ensures) ∙ c .before .enum-told3 .given .1))
 

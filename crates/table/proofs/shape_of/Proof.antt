@@ -1,139 +1,103 @@
+-- `table::shape_of` meets its contract.
 use Rattle.table.specs.Walk.{shapeOf}
-use mathlib.Core.Path.{_≡_, refl}
 use borrow.Author.Needs.{needs}
 use Rattle.table.proofs.shape_of.Statement.{statement}
 use Rattle.table.proofs.shape_of.Tie as tie
-use Rattle.table.proofs.shape_of.Reads as reads
-use Rattle.table.proofs.shape_of.Lts as lts
-use Rattle.table.proofs.both_zero.Reads as both-zero-reads
-use Rattle.table.proofs.call_row.Reads as call-row-reads
-use Rattle.table.proofs.no_row.Reads as no-row-reads
-use Rattle.table.proofs.row.Reads as row-reads
 
--- src/lib.rt:235:34
 enum-told : tie.Need-enum-told
 enum-told c = search needs
 
--- src/lib.rt:235:30
 row-requires : tie.Need-row-requires
 row-requires c κs = search needs
 
--- src/lib.rt:236:21
 enum-known-node : tie.Need-enum-known-node
 enum-known-node c = search needs
 
--- src/lib.rt:236:34
 both-zero-requires : tie.Need-both-zero-requires
 both-zero-requires c κs = search needs
 
--- src/lib.rt:236:30
 row-requires-2 : tie.Need-row-requires-2
 row-requires-2 c κs = search needs
 
--- src/lib.rt:237:39
 enum-told-2 : tie.Need-enum-told-2
 enum-told-2 c = search needs
 
--- src/lib.rt:237:35
 row-requires-3 : tie.Need-row-requires-3
 row-requires-3 c κs = search needs
 
--- src/lib.rt:238:35
 enum-told-3 : tie.Need-enum-told-3
 enum-told-3 c = search needs
 
--- src/lib.rt:238:31
 row-requires-4 : tie.Need-row-requires-4
 row-requires-4 c κs = search needs
 
--- src/lib.rt:239:29
 enum-told-4 : tie.Need-enum-told-4
 enum-told-4 c = search needs
 
--- src/lib.rt:239:29
 both-zero-requires-2 : tie.Need-both-zero-requires-2
 both-zero-requires-2 c κs = search needs
 
--- src/lib.rt:239:46
 add-row : tie.Need-add-row
 add-row c = search needs
 
--- src/lib.rt:239:62
 add-row-2 : tie.Need-add-row-2
 add-row-2 c = search needs
 
--- src/lib.rt:239:25
 row-requires-5 : tie.Need-row-requires-5
 row-requires-5 c κs = search needs
 
--- src/lib.rt:240:20
 enum-known-node-2 : tie.Need-enum-known-node-2
 enum-known-node-2 c = search needs
 
--- src/lib.rt:240:32
 call-row-requires : tie.Need-call-row-requires
 call-row-requires c κs = search needs
 
--- src/lib.rt:241:33
 enum-told-5 : tie.Need-enum-told-5
 enum-told-5 c = search needs
 
--- src/lib.rt:241:41
 add-row-3 : tie.Need-add-row-3
 add-row-3 c = search needs
 
--- src/lib.rt:241:57
 add-row-4 : tie.Need-add-row-4
 add-row-4 c = search needs
 
--- src/lib.rt:241:29
 row-requires-6 : tie.Need-row-requires-6
 row-requires-6 c κs = search needs
 
--- src/lib.rt:242:26
 enum-told-6 : tie.Need-enum-told-6
 enum-told-6 c = search needs
 
--- src/lib.rt:242:26
 no-row-requires : tie.Need-no-row-requires
 no-row-requires c κs = search needs
 
--- src/lib.rt:230:1
 returns : tie.Need-returns
 unfolding shapeOf
 returns c = rw (c .before .enum-told .given .1) (c .row .ensures)
 
--- src/lib.rt:230:1
 returns-2 : tie.Need-returns-2
 unfolding shapeOf
 returns-2 c = rw (c .before .before .before .node .given .1, ← c .before .both-zero .ensures) (c .row2 .ensures)
 
--- src/lib.rt:230:1
 returns-3 : tie.Need-returns-3
 unfolding shapeOf
 returns-3 c = rw (c .before .enum-told2 .given .1) (c .row3 .ensures)
 
--- src/lib.rt:230:1
 returns-4 : tie.Need-returns-4
 unfolding shapeOf
 returns-4 c = rw (c .before .enum-told3 .given .1) (c .row4 .ensures)
 
--- src/lib.rt:230:1
 returns-5 : tie.Need-returns-5
 unfolding shapeOf
 returns-5 c = rw (c .before .before .enum-told4 .given .1, ← c .before .both-zero2 .ensures) (c .row5 .ensures)
 
--- src/lib.rt:230:1
 returns-6 : tie.Need-returns-6
 unfolding shapeOf
 returns-6 c = rw (c .before .before .node2 .given .1) (c .call-row .ensures)
 
--- src/lib.rt:230:1
 returns-7 : tie.Need-returns-7
 unfolding shapeOf
 returns-7 c = rw (c .before .enum-told5 .given .1) (c .row6 .ensures)
 
--- src/lib.rt:230:1
 returns-8 : tie.Need-returns-8
 unfolding shapeOf
 returns-8 c = rw (c .before .enum-told6 .given .1) (c .no-row .ensures)

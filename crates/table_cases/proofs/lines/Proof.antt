@@ -1,3 +1,4 @@
+-- `table_cases::lines` meets its contract.
 use lib.ListN.{length}
 use mathlib.Core.Path.{_≡_, refl}
 use borrow.Author.Needs.{needs}
@@ -5,9 +6,6 @@ use Prim.Native.Nat.{_-_}
 use native.Mathlib.Omega.{arith}
 use Rattle.table_cases.proofs.lines.Statement.{statement}
 use Rattle.table_cases.proofs.lines.Tie as tie
-use Rattle.table_cases.proofs.lines.Reads as reads
-use Rattle.table_cases.proofs.lines.Lts as lts
-use Rattle.table_cases.proofs.line.Reads as line-reads
 
 abbrev Inv-loop : tie.InvT-loop
 Inv-loop text end words₀ at₀ words at = length words ≡ length words₀
@@ -15,27 +13,21 @@ Inv-loop text end words₀ at₀ words at = length words ≡ length words₀
 abbrev μ-loop : tie.MeasureT-loop
 μ-loop text end words₀ at₀ words at = end - at
 
--- src/main.rt:132:5
 loop-holds : tie.Need-loop-holds Inv-loop μ-loop
 loop-holds c = refl
 
--- src/main.rt:133:9
 line-requires : tie.Need-line-requires Inv-loop μ-loop
 line-requires c κs = omega arith
 
--- src/main.rt:132:5
 loop-less : tie.Need-loop-less Inv-loop μ-loop
 loop-less c = omega arith
 
--- src/main.rt:132:5
 loop-again : tie.Need-loop-again Inv-loop μ-loop
 loop-again c = search needs
 
--- src/main.rt:128:1
 same-length : tie.Need-same-length Inv-loop μ-loop
 same-length c = search needs
 
--- src/main.rt:128:1
 returns : tie.Need-returns Inv-loop μ-loop
 returns c = search needs
 

@@ -1,3 +1,4 @@
+-- `table_cases::scan_words` meets its contract.
 use Prim.Native.Nat.{_≤_, _<_, _-_}
 use lib.ListN.{length}
 use mathlib.Core.Path.{_≡_}
@@ -5,9 +6,6 @@ use borrow.Author.Needs.{needs}
 use native.Mathlib.Omega.{arith}
 use Rattle.table_cases.proofs.scan_words.Statement.{statement}
 use Rattle.table_cases.proofs.scan_words.Tie as tie
-use Rattle.table_cases.proofs.scan_words.Reads as reads
-use Rattle.table_cases.proofs.scan_words.Lts as lts
-use Rattle.table_cases.proofs.scanned.Reads as scanned-reads
 
 abbrev Inv-loop : tie.InvT-loop
 Inv-loop text from end words₀ scan₀ i₀ words scan i = (i ≤ end) × (scan .words ≤ length words) × (length words ≡ length words₀) × (scan .number < 4294967296)
@@ -15,39 +13,30 @@ Inv-loop text from end words₀ scan₀ i₀ words scan i = (i ≤ end) × (scan
 abbrev μ-loop : tie.MeasureT-loop
 μ-loop text from end words₀ scan₀ i₀ words scan i = end - i
 
--- src/main.rt:85:5
 loop-holds : tie.Need-loop-holds Inv-loop μ-loop
 loop-holds c = search needs
 
--- src/main.rt:86:37
 shared-slice-read-scanned : tie.Need-shared-slice-read-scanned Inv-loop μ-loop
 shared-slice-read-scanned c = omega arith
 
--- src/main.rt:86:9
 scanned-requires : tie.Need-scanned-requires Inv-loop μ-loop
 scanned-requires c κs = omega arith
 
--- src/main.rt:87:9
 add-i : tie.Need-add-i Inv-loop μ-loop
 add-i c = omega arith
 
--- src/main.rt:85:5
 loop-less : tie.Need-loop-less Inv-loop μ-loop
 loop-less c = omega arith
 
--- src/main.rt:85:5
 loop-again : tie.Need-loop-again Inv-loop μ-loop
 loop-again c = omega arith
 
--- src/main.rt:89:5
 scanned-requires-2 : tie.Need-scanned-requires-2 Inv-loop μ-loop
 scanned-requires-2 c κs = omega arith
 
--- src/main.rt:75:1
 same-length : tie.Need-same-length Inv-loop μ-loop
 same-length c = search needs
 
--- src/main.rt:75:1
 returns : tie.Need-returns Inv-loop μ-loop
 returns c = omega arith
 

@@ -1,0 +1,56 @@
+-- `frames::collect` meets its contract: its two stores collect the argument, by `collected`. Assumes nothing.
+use native.Mathlib.Omega.{arith}
+use lib.ListN.{length-set}
+use Rattle.frames.proofs.Writes.{collected}
+use borrow.Author.Needs.{needs}
+use Rattle.frames.proofs.collect.Statement.{statement}
+use Rattle.frames.proofs.collect.Tie as tie
+
+mul-b : tie.Need-mul-b
+mul-b c = search needs
+
+add-ws : tie.Need-add-ws
+add-ws c = search needs
+
+add-ws-2 : tie.Need-add-ws-2
+add-ws-2 c = search needs
+
+mul-ws : tie.Need-mul-ws
+mul-ws c = search needs
+
+slice-write-ws : tie.Need-slice-write-ws
+slice-write-ws c = search needs
+
+add-ws-3 : tie.Need-add-ws-3
+add-ws-3 c = search needs
+
+add-ws-4 : tie.Need-add-ws-4
+add-ws-4 c = search needs
+
+mul-ws-2 : tie.Need-mul-ws-2
+mul-ws-2 c = search needs
+
+slice-write-ws-2 : tie.Need-slice-write-ws-2
+slice-write-ws-2 c = simp length-set (omega arith)
+
+same-length : tie.Need-same-length
+same-length c = search needs
+
+returns : tie.Need-returns
+returns c = collected (c .args .ws .now) (c .args .top) (c .pre .0) (c .args .n) (c .args .v) (c .pre .1)
+
+pub collect-spec : {M : Type 1} → statement M
+collect-spec =
+    tie.close
+    (tie.spec
+    mul-b
+    add-ws
+    add-ws-2
+    mul-ws
+    slice-write-ws
+    add-ws-3
+    add-ws-4
+    mul-ws-2
+    slice-write-ws-2
+    same-length
+    returns)

@@ -1,0 +1,56 @@
+-- `frames::turn` meets its contract: its three stores turn the frame, by `turned`. Assumes nothing.
+use native.Mathlib.Omega.{arith}
+use lib.ListN.{length-set}
+use Rattle.frames.proofs.Writes.{turned}
+use borrow.Author.Needs.{needs}
+use Rattle.frames.proofs.turn.Statement.{statement}
+use Rattle.frames.proofs.turn.Tie as tie
+
+mul-b : tie.Need-mul-b
+mul-b c = search needs
+
+mul-ws : tie.Need-mul-ws
+mul-ws c = search needs
+
+slice-write-ws : tie.Need-slice-write-ws
+slice-write-ws c = search needs
+
+add-ws : tie.Need-add-ws
+add-ws c = search needs
+
+mul-ws-2 : tie.Need-mul-ws-2
+mul-ws-2 c = search needs
+
+slice-write-ws-2 : tie.Need-slice-write-ws-2
+slice-write-ws-2 c = simp length-set (omega arith)
+
+add-ws-2 : tie.Need-add-ws-2
+add-ws-2 c = search needs
+
+mul-ws-3 : tie.Need-mul-ws-3
+mul-ws-3 c = search needs
+
+slice-write-ws-3 : tie.Need-slice-write-ws-3
+slice-write-ws-3 c = simp length-set (omega arith)
+
+same-length : tie.Need-same-length
+same-length c = search needs
+
+returns : tie.Need-returns
+returns c = turned (c .args .ws .now) (c .args .top) (c .pre) (c .args .kind) (c .args .v) (c .args .span)
+
+pub turn-spec : {M : Type 1} → statement M
+turn-spec =
+    tie.close
+    (tie.spec
+    mul-b
+    mul-ws
+    slice-write-ws
+    add-ws
+    mul-ws-2
+    slice-write-ws-2
+    add-ws-2
+    mul-ws-3
+    slice-write-ws-3
+    same-length
+    returns)

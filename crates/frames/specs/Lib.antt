@@ -1,0 +1,2 @@
+-- What the functions of the crate leave in the words.
+pub mod Frames

@@ -1,0 +1,125 @@
+// The frames of a machine, in the words of a lent workspace: each function writes or reads the words of one frame.
+//
+// A frame is 32 words of 64 bits (document 01, refusal 11); frame d begins at word b = 32 * d:
+//
+//     b         its kind
+//     b + 1     the function of its node
+//     b + 2     its node
+//     b + 3     how many locals it saves
+//     b + 4     a value: the left operand's or the left branch's, or how many arguments are collected
+//     b + 5     the span before the fork
+//     b + 6     the span of the left branch
+//     b + 8     the saved locals, at most 16
+//     b + 24    the collected arguments, at most 3
+//
+// The words b + 7 and b + 27 to b + 31 are not used. What a kind means is the machine's affair.
+
+ghost use mathlib.Core.Path.{_≡_};
+ghost use Prim.Native.Nat.{_+_, _*_, _<_, _≤_};
+ghost use lib.ListN.{length, set, drop, replicate};
+ghost use lib.Seq.{paste};
+ghost use Rattle.frames.specs.Frames.{Pushed, Turned, Collected, Loaded, Appended};
+
+// Copies n words of `src`, from word `from` on, over those of `dst` from word `at` on.
+pub fn copy(dst: &mut [u64], at: usize, src: &[u64], from: usize, n: usize)
+    requires { ⌜ (at + n ≤ length (now dst)) × (from + n ≤ length (now src)) ⌝ }
+    ensures { λ _. ⌜ now (dst .exit) ≡ paste (now (dst .entry)) at (drop from (now (src .entry))) n ⌝ }
+{
+    let mut i = 0;
+    while i < n {
+        dst[at + i] = src[from + i];
+        i += 1;
+    }
+}
+
+// Writes a new frame over the words of frame `depth`: it saves the first k locals and has no value yet.
+pub fn push(
+    ws: &mut [u64],
+    depth: usize,
+    kind: u64,
+    function: usize,
+    node: usize,
+    k: usize,
+    locals: &[u64],
+    before: u64,
+)
+    requires { ⌜ (32 * depth + 32 ≤ length (now ws)) × (k ≤ 16) × (k ≤ length (now locals)) ⌝ }
+    ensures { λ _. ⌜ Pushed (now (ws .entry)) (now (ws .exit)) depth kind function node k (now (locals .entry)) before ⌝ }
+{
+    let b = 32 * depth;
+    ws[b] = kind;
+    ws[b + 1] = function as u64;
+    ws[b + 2] = node as u64;
+    ws[b + 3] = k as u64;
+    ws[b + 4] = 0;
+    ws[b + 5] = before;
+    copy(ws, b + 8, locals, 0, k);
+}
+
+// Turns frame `top` to its second child: another kind, the first child's value and, at a fork, the span of the left branch.
+pub fn turn(ws: &mut [u64], top: usize, kind: u64, v: u64, span: u64)
+    requires { ⌜ 32 * top + 32 ≤ length (now ws) ⌝ }
+    ensures { λ _. ⌜ Turned (now (ws .entry)) (now (ws .exit)) top kind v span ⌝ }
+{
+    let b = 32 * top;
+    ws[b] = kind;
+    ws[b + 4] = v;
+    ws[b + 6] = span;
+}
+
+// Collects v as argument n of frame `top`, which has collected those before it.
+pub fn collect(ws: &mut [u64], top: usize, n: usize, v: u64)
+    requires { ⌜ (32 * top + 32 ≤ length (now ws)) × (n < 3) ⌝ }
+    ensures { λ _. ⌜ Collected (now (ws .entry)) (now (ws .exit)) top n v ⌝ }
+{
+    let b = 32 * top;
+    ws[b + 24 + n] = v;
+    ws[b + 4] = (n + 1) as u64;
+}
+
+// Promotes frame `at`: another kind, and the span before the fork.
+pub fn mark(ws: &mut [u64], at: usize, kind: u64, span: u64)
+    requires { ⌜ 32 * at + 32 ≤ length (now ws) ⌝ }
+    ensures { λ _. ⌜ now (ws .exit) ≡ set (set (now (ws .entry)) (32 * at) kind) (32 * at + 5) span ⌝ }
+{
+    let b = 32 * at;
+    ws[b] = kind;
+    ws[b + 5] = span;
+}
+
+// Brings the k locals that frame `top` saves back.
+pub fn load(locals: &mut [u64], ws: &[u64], top: usize, k: usize)
+    requires { ⌜ (32 * top + 32 ≤ length (now ws)) × (k ≤ 16) × (length (now locals) ≡ 16) ⌝ }
+    ensures { λ _. ⌜ Loaded (now (ws .entry)) (32 * top + 8) k (now (locals .exit)) ⌝ }
+{
+    let b = 32 * top;
+    copy(locals, 0, ws, b + 8, k);
+}
+
+// Makes the n arguments that frame `top` has collected the first locals.
+pub fn load_arguments(locals: &mut [u64], ws: &[u64], top: usize, n: usize)
+    requires { ⌜ (32 * top + 32 ≤ length (now ws)) × (n ≤ 3) × (length (now locals) ≡ 16) ⌝ }
+    ensures { λ _. ⌜ Loaded (now (ws .entry)) (32 * top + 24) n (now (locals .exit)) ⌝ }
+{
+    let b = 32 * top;
+    copy(locals, 0, ws, b + 24, n);
+}
+
+// Binds one local more, v, after the first k.
+pub fn append(locals: &mut [u64], k: usize, v: u64)
+    requires { ⌜ (k < 16) × (length (now locals) ≡ 16) ⌝ }
+    ensures { λ _. ⌜ Appended (now (locals .entry)) k v (now (locals .exit)) ⌝ }
+{
+    locals[k] = v;
+}
+
+// Sets every word to 0.
+pub fn clear(ws: &mut [u64])
+    ensures { λ _. ⌜ now (ws .exit) ≡ replicate (length (now (ws .entry))) 0 ⌝ }
+{
+    let mut w = 0;
+    while w < ws.len() {
+        ws[w] = 0;
+        w += 1;
+    }
+}

@@ -1,0 +1,84 @@
+-- Demand 3 of the three answers, for every input.
+use Prim.Native.Nat.{ℕ, _≤_}
+use mathlib.Core.Path.{_≡_, refl, ap, _∙_}
+use mathlib.Core.List.{List}
+use native.Mathlib.Omega.{arith}
+use lib.ListN.{length}
+use Rattle.table.specs.declared.Reading.{Reading}
+use Rattle.table.specs.declared.Reading.the-variants as reading
+use Rattle.schedule.specs.Graph.{Graph, work, span}
+use Rattle.schedule.specs.Algebra.{graphs}
+use Rattle.schedule.specs.Machine as machine
+use Rattle.schedule.specs.Machine.{value, stop, Result, ended, ongoing, Schedule, sequential, parallel, heartbeat}
+use Rattle.schedule.specs.Runs.{outcome}
+use Rattle.schedule.proofs.Demand.{demand-3}
+use Rattle.language.specs.declared.Counts.{Counts}
+use Rattle.language.specs.declared.Answer.{Answer}
+use Rattle.language.specs.declared.Answer.the-variants.{Value, Stopped, Refused}
+use Rattle.language.specs.Language.{language}
+use Rattle.language.specs.Checks.{framesIn, checkedOf}
+use Rattle.language.specs.Answers.{entry, countsOf, toldBy, afterCheck, runOf, answerOf, sequentialOf, parallelOf, heartbeatOf}
+use Rattle.language.specs.Claim.{FourStatements, DemandThree, ForEveryInput}
+use Rattle.language.proofs.Admission.{checked-iff}
+
+-- the counts of an answer that has a value
+counts-of : Counts → Answer → Counts
+counts-of other (Value v a) = a
+counts-of other (Stopped s) = other
+counts-of other (Refused r) = other
+
+module _ (w arguments : List ℕ) (fuel N τ workspace : ℕ) (N-positive : 1 ≤ N) (τ-positive : 1 ≤ τ) where
+  abbrev ran : Schedule → Result graphs (language w)
+  ran m = outcome graphs (language w) fuel (framesIn workspace) m (entry arguments)
+
+  abbrev told : Graph → machine.Counts → Counts
+  told g t = countsOf (t .transitions) (t .forks) (work τ g) (span τ g)
+
+  -- of the runs, by what the sequential one comes to
+  of-run : (v : ℕ) (a : Counts) (o : Result graphs (language w)) → ran sequential ≡ o → toldBy τ o ≡ Value v a
+      → FourStatements N τ v a (runOf parallel w arguments fuel τ workspace) (runOf (heartbeat N) w arguments fuel τ workspace)
+  unfolding toldBy runOf counts-of
+  of-run v a (ended (value u) g t) e q =
+      let d = demand-3 (language w) fuel (framesIn workspace) N τ (entry arguments) u g t N-positive τ-positive e in
+      let same : u ≡ v = cc in
+      let counted : told g t ≡ a = ap (counts-of a) q in
+      let paid : work τ g ≡ a .work .0 = ap (λ (x : Counts). x .work .0) counted in
+      let by-parallel = told (d .parallel-run .cost) (d .parallel-run .counts) in
+      let by-heartbeat = told (d .heartbeat-run .cost) (d .heartbeat-run .counts) in
+      record {
+        p = by-parallel;
+        h = by-heartbeat;
+        parallel-value = ap (toldBy τ) (d .parallel-run .is) ∙ ap (λ (z : ℕ). Value z by-parallel) same;
+        heartbeat-value = ap (toldBy τ) (d .heartbeat-run .is) ∙ ap (λ (z : ℕ). Value z by-heartbeat) same;
+        work-bound = rw (← paid) (d .work-bound);
+        span-bound = d .span-bound;
+        identity = rw (← paid) (d .identity);
+      }
+  of-run v a (ended (stop i p) g t) e q = let no : _≡_ {A = ℕ} 0 1 = cc in absurd (omega arith)
+  of-run v a (ongoing s) e q = let no : _≡_ {A = ℕ} 0 1 = cc in absurd (omega arith)
+
+-- by what the check answers: a refusal is no value, and N and τ are positive where it accepts
+module _ (w arguments : List ℕ) (fuel N τ workspace : ℕ) where
+  abbrev ran-by : Schedule → Answer
+  ran-by m = runOf m w arguments fuel τ workspace
+
+  of-check : (v : ℕ) (a : Counts) (r : Reading) → checkedOf w (length arguments) fuel N τ workspace ≡ r
+      → afterCheck r (ran-by sequential) ≡ Value v a
+      → FourStatements N τ v a (afterCheck r (ran-by parallel)) (afterCheck r (ran-by (heartbeat N)))
+  unfolding afterCheck runOf
+  of-check v a reading.Accepted e q =
+      let admitted = checked-iff w (length arguments) fuel N τ workspace .0 e in
+      of-run w arguments fuel N τ workspace (admitted .period .least) (admitted .tau .least) v a _ refl q
+  of-check v a (reading.Refused r) e q = let no : _≡_ {A = ℕ} 0 1 = cc in absurd (omega arith)
+
+-- THE CLAIM
+pub claim : ForEveryInput
+unfolding answerOf
+claim w arguments fuel N τ workspace = record {
+  at-a-value = λ v a q. of-check w arguments fuel N τ workspace v a (checkedOf w (length arguments) fuel N τ workspace) refl q;
+}
+
+-- and so of any three answers that are those
+pub claim-of : (w arguments : List ℕ) (fuel N τ workspace : ℕ) (s p h : Answer) → s ≡ sequentialOf w arguments fuel N τ workspace
+    → p ≡ parallelOf w arguments fuel N τ workspace → h ≡ heartbeatOf w arguments fuel N τ workspace → DemandThree N τ s p h
+claim-of w arguments fuel N τ workspace s p h d e f = rw (d, e, f) (claim w arguments fuel N τ workspace)

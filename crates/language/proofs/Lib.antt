@@ -1,0 +1,5 @@
+-- The proofs of what specs/ states. Another crate cites them so: `use Rattle.language.proofs.Claim.{claim}`.
+pub mod Admission
+pub mod Told
+pub mod Claim
+pub mod Settled

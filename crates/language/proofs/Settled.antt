@@ -1,0 +1,23 @@
+-- The settled runs of document 01 and the further ones, by computation: each row's table is read, accepted, and run.
+use mathlib.Core.Path.{refl}
+use Rattle.table.specs.Words.{nodesBefore}
+use Rattle.table.specs.Nodes.{arithmeticOf, nodeOf}
+use Rattle.table.specs.Walk as walk
+use Rattle.table.specs.Read.{_then_, header, entry, exact, rootOf, bodyRead, each, contents, bodies, readOf}
+use Rattle.arithmetic.specs.Operate.{computed}
+use Rattle.schedule.specs.Graph.{work, span}
+use Rattle.schedule.specs.Machine.{promotable, promote, promoted-at-birth, promotion-due, with-fuel, with-frame, evaluated, arrived, move, step, start}
+use Rattle.schedule.specs.Runs.{and-then, run, outcome}
+use Rattle.language.specs.Language.{result, operated, call, next, gathered, arrive}
+use Rattle.language.specs.Checks.{rangeOf, argumentsOf, workspaceOf, settingsOf, checkedOf}
+use Rattle.language.specs.Answers.{toldBy, afterCheck, runOf, answerOf}
+use Rattle.language.specs.Settled.{rows, answered, told, SettledRuns}
+use Rattle.language.specs.Examples.{examples, ExampleRuns}
+
+pub settled : SettledRuns
+unfolding rows answered told answerOf afterCheck runOf toldBy checkedOf settingsOf workspaceOf argumentsOf rangeOf readOf bodies contents each bodyRead rootOf exact entry header _then_ nodesBefore arithmeticOf nodeOf computed work span promotable promote promoted-at-birth promotion-due with-fuel with-frame evaluated arrived move step start and-then run outcome result operated call next gathered arrive walk.unusedOf walk.callShape walk.shapeOf walk.next walk.afterFirst walk.children walk.own walk.walkOf
+settled = refl
+
+pub worked : ExampleRuns
+unfolding examples answered told answerOf afterCheck runOf toldBy checkedOf settingsOf workspaceOf argumentsOf rangeOf readOf bodies contents each bodyRead rootOf exact entry header _then_ nodesBefore arithmeticOf nodeOf computed work span promotable promote promoted-at-birth promotion-due with-fuel with-frame evaluated arrived move step start and-then run outcome result operated call next gathered arrive walk.unusedOf walk.callShape walk.shapeOf walk.next walk.afterFirst walk.children walk.own walk.walkOf
+worked = refl

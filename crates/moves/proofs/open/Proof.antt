@@ -1,0 +1,62 @@
+-- `moves::open` meets its contract.
+use Rattle.moves.specs.declared.Step.the-variants.{Go}
+use Rattle.moves.specs.Ready.Opened.{full}
+use Rattle.moves.specs.Ready.{dry, opens}
+use borrow.Author.Tests.{ltb-true, ltb-false}
+use mathlib.Core.Path.{refl, ap, sym, _∙_}
+use borrow.Author.Needs.{needs}
+use Rattle.moves.proofs.open.Statement.{statement}
+use Rattle.moves.proofs.open.Tie as tie
+
+allows-requires : tie.Need-allows-requires
+allows-requires c κs = search needs
+
+push-requires : tie.Need-push-requires
+push-requires c κs = search needs
+
+rise-requires : tie.Need-rise-requires
+rise-requires c κs = search needs
+
+add-t22 : tie.Need-add-t22
+add-t22 c = search needs
+
+add-tick : tie.Need-add-tick
+add-tick c = search needs
+
+tick-requires : tie.Need-tick-requires
+tick-requires c κs = rw (c .rise .ensures) (c .before .before .before .before .before .before .before .before .before .before .before .pre .credits, c .before .before .before .before .before .before .before .before .before .before .before .pre .span, c .before .before .before .before .before .before .before .before .before .before .before .pre .transitions)
+
+same-length : tie.Need-same-length
+same-length c = search needs
+
+returns : tie.Need-returns
+returns c = opens (ltb-true _ _ (sym (c .before .before .before .before .before .before .before .before .allows .ensures) ∙ c .before .before .before .before .before .before .before .if1 .taken)) (c .before .before .before .before .before .before .if2 .taken) (c .before .before .before .before .push .ensures) (ap Go (rw (c .before .rise .ensures) at (c .tick .ensures)))
+
+halt-requires : tie.Need-halt-requires
+halt-requires c κs = search needs
+
+returns-2 : tie.Need-returns-2
+returns-2 c = full (ltb-true _ _ (sym (c .before .before .before .allows .ensures) ∙ c .before .before .if1 .taken)) (c .before .if2 .left) refl (c .halt .ensures)
+
+halt-requires-2 : tie.Need-halt-requires-2
+halt-requires-2 c κs = search needs
+
+returns-3 : tie.Need-returns-3
+returns-3 c = dry (ltb-false _ _ (sym (c .before .before .allows .ensures) ∙ c .before .if1 .left)) refl (c .halt2 .ensures)
+
+pub open-spec : {M : Type 1} → statement M
+open-spec =
+    tie.close
+    (tie.spec
+    allows-requires
+    push-requires
+    rise-requires
+    add-t22
+    add-tick
+    tick-requires
+    same-length
+    returns
+    halt-requires
+    returns-2
+    halt-requires-2
+    returns-3)

@@ -1,0 +1,117 @@
+-- `moves::ret_argument` meets its contract, by the laws of Returning, Frames.
+use Rattle.moves.proofs.Returning.{top, few-here, called-here, called-inside}
+use Rattle.moves.proofs.Frames.{frame-start, frame-inside}
+use native.Mathlib.Omega.{arith}
+use Prim.Native.Nat.{_*_}
+use borrow.Author.Needs.{needs}
+use Rattle.moves.proofs.ret_argument.Statement.{statement}
+use Rattle.moves.proofs.ret_argument.Tie as tie
+
+mul-b : tie.Need-mul-b
+mul-b c = search needs
+
+add-index : tie.Need-add-index
+add-index c = search needs
+
+mul-index : tie.Need-mul-index
+mul-index c = search needs
+
+slice-read-index : tie.Need-slice-read-index
+slice-read-index c = search needs
+
+index-requires : tie.Need-index-requires
+index-requires c κs = search needs
+
+add-index-2 : tie.Need-add-index-2
+add-index-2 c = search needs
+
+mul-index-2 : tie.Need-mul-index-2
+mul-index-2 c = search needs
+
+slice-read-index-2 : tie.Need-slice-read-index-2
+slice-read-index-2 c = search needs
+
+index-requires-2 : tie.Need-index-requires-2
+index-requires-2 c κs = search needs
+
+add-index-3 : tie.Need-add-index-3
+add-index-3 c = search needs
+
+mul-index-3 : tie.Need-mul-index-3
+mul-index-3 c = search needs
+
+slice-read-index-3 : tie.Need-slice-read-index-3
+slice-read-index-3 c = search needs
+
+index-requires-3 : tie.Need-index-requires-3
+index-requires-3 c κs = search needs
+
+mul-called : tie.Need-mul-called
+mul-called c = omega (arith, c .before .before .before .before .index .ensures, (top (c .before .before .before .before .before .before .before .before .before .before .args .words .now) (c .before .before .before .before .before .before .before .before .before .before .args .ws .now) (c .before .before .before .before .before .before .before .before .before .before .args .locals .now) (c .before .before .before .before .before .before .before .before .before .before .args .plan) (c .before .before .before .before .before .before .before .before .before .before .args .s) (c .before .before .before .before .before .before .before .before .before .before .args .v) (c .before .before .before .before .before .before .before .before .before .before .args .top) 4 (c .before .before .before .before .before .before .before .before .before .before .pre .0)) .stands .function, c .before .before .before .before .before .before .before .before .before .before .pre .0 .ready .kept .table .contents .header .few)
+
+shared-slice-read-called : tie.Need-shared-slice-read-called
+shared-slice-read-called c = frame-start (c .before .before .before .before .before .before .before .before .before .before .before .args .words .now) (c .before .before .before .before .before .before .before .before .before .before .before .args .ws .now) _ (32 * c .before .before .before .before .before .before .before .before .before .before .before .args .top) (c .before .before .before .before .before .before .before .before .before .before .before .pre .0 .ready .kept .table) ((top (c .before .before .before .before .before .before .before .before .before .before .before .args .words .now) (c .before .before .before .before .before .before .before .before .before .before .before .args .ws .now) (c .before .before .before .before .before .before .before .before .before .before .before .args .locals .now) (c .before .before .before .before .before .before .before .before .before .before .before .args .plan) (c .before .before .before .before .before .before .before .before .before .before .before .args .s) (c .before .before .before .before .before .before .before .before .before .before .before .args .v) (c .before .before .before .before .before .before .before .before .before .before .before .args .top) 4 (c .before .before .before .before .before .before .before .before .before .before .before .pre .0)) .stands) (c .before .before .before .before .before .before .before .before .before .before .before .pre .2) _ _ (c .before .before .before .before .before .index .ensures) (c .before .before .before .index2 .ensures)
+
+called-requires : tie.Need-called-requires
+called-requires c κs = frame-inside (c .before .before .before .before .before .before .before .before .before .before .before .args .words .now) (c .before .before .before .before .before .before .before .before .before .before .before .args .ws .now) _ (32 * c .before .before .before .before .before .before .before .before .before .before .before .args .top) (c .before .before .before .before .before .before .before .before .before .before .before .pre .0 .ready .kept .table) ((top (c .before .before .before .before .before .before .before .before .before .before .before .args .words .now) (c .before .before .before .before .before .before .before .before .before .before .before .args .ws .now) (c .before .before .before .before .before .before .before .before .before .before .before .args .locals .now) (c .before .before .before .before .before .before .before .before .before .before .before .args .plan) (c .before .before .before .before .before .before .before .before .before .before .before .args .s) (c .before .before .before .before .before .before .before .before .before .before .before .args .v) (c .before .before .before .before .before .before .before .before .before .before .before .args .top) 4 (c .before .before .before .before .before .before .before .before .before .before .before .pre .0)) .stands) (c .before .before .before .before .before .before .before .before .before .before .before .pre .2) _ _ (c .before .before .before .before .before .index .ensures) (c .before .before .before .index2 .ensures)
+
+add-if1 : tie.Need-add-if1
+add-if1 c = omega (arith, few-here (c .before .before .before .before .before .before .before .before .before .before .before .before .args .words .now) (c .before .before .before .before .before .before .before .before .before .before .before .before .args .ws .now) (c .before .before .before .before .before .before .before .before .before .before .before .before .args .locals .now) (c .before .before .before .before .before .before .before .before .before .before .before .before .args .plan) (c .before .before .before .before .before .before .before .before .before .before .before .before .args .s) (c .before .before .before .before .before .before .before .before .before .before .before .before .args .v) (c .before .before .before .before .before .before .before .before .before .before .before .before .args .top) (c .before .before .before .before .before .before .before .before .before .before .before .before .pre .0) _ (c .before .before .index3 .ensures))
+
+arity-requires : tie.Need-arity-requires
+arity-requires c κs = called-inside (c .before .before .before .before .before .before .before .before .before .before .before .before .args .words .now) (c .before .before .before .before .before .before .before .before .before .before .before .before .args .ws .now) (c .before .before .before .before .before .before .before .before .before .before .before .before .args .locals .now) (c .before .before .before .before .before .before .before .before .before .before .before .before .args .plan) (c .before .before .before .before .before .before .before .before .before .before .before .before .args .s) (c .before .before .before .before .before .before .before .before .before .before .before .before .args .v) (c .before .before .before .before .before .before .before .before .before .before .before .before .args .top) (c .before .before .before .before .before .before .before .before .before .before .before .before .pre .0) _ (c .before .before .before .before .before .before .before .before .before .before .before .before .pre .2) _ _ (c .before .before .before .before .before .before .index .ensures) (c .before .before .before .before .index2 .ensures) _ (c .called .ensures)
+
+next-argument-requires : tie.Need-next-argument-requires
+next-argument-requires c κs = (c .before .before .before .before .before .before .before .before .before .before .before .before .before .before .before .before .pre .0, c .before .before .before .before .before .before .before .before .before .before .before .before .before .before .before .before .pre .1, c .before .before .before .before .before .before .before .before .before .before .before .before .before .before .before .before .pre .2, c .before .before .before .before .before .before .index3 .ensures, rw (c .before .before .before .arity .ensures, called-here (c .before .before .before .before .before .before .before .before .before .before .before .before .before .before .before .before .args .words .now) (c .before .before .before .before .before .before .before .before .before .before .before .before .before .before .before .before .args .ws .now) (c .before .before .before .before .before .before .before .before .before .before .before .before .before .before .before .before .args .locals .now) (c .before .before .before .before .before .before .before .before .before .before .before .before .before .before .before .before .args .plan) (c .before .before .before .before .before .before .before .before .before .before .before .before .before .before .before .before .args .s) (c .before .before .before .before .before .before .before .before .before .before .before .before .before .before .before .before .args .v) (c .before .before .before .before .before .before .before .before .before .before .before .before .before .before .before .before .args .top) (c .before .before .before .before .before .before .before .before .before .before .before .before .before .before .before .before .pre .0) _ (c .before .before .before .before .before .before .before .before .before .before .before .before .before .before .before .before .pre .2) _ _ (c .before .before .before .before .before .before .before .before .before .before .index .ensures) (c .before .before .before .before .before .before .before .before .index2 .ensures) _ (c .before .before .before .before .called .ensures)) at (c .before .before .if1 .taken))
+
+same-length : tie.Need-same-length
+same-length c = search needs
+
+same-length-2 : tie.Need-same-length-2
+same-length-2 c = search needs
+
+returns : tie.Need-returns
+returns c = search needs
+
+last-argument-requires : tie.Need-last-argument-requires
+last-argument-requires c κs = (c .before .before .before .before .before .before .before .before .before .before .before .before .before .before .before .before .pre .0, c .before .before .before .before .before .before .before .before .before .before .before .before .before .before .before .before .pre .1, c .before .before .before .before .before .before .index3 .ensures, rw (c .before .before .before .arity .ensures) at (c .before .before .if1 .left), called-here (c .before .before .before .before .before .before .before .before .before .before .before .before .before .before .before .before .args .words .now) (c .before .before .before .before .before .before .before .before .before .before .before .before .before .before .before .before .args .ws .now) (c .before .before .before .before .before .before .before .before .before .before .before .before .before .before .before .before .args .locals .now) (c .before .before .before .before .before .before .before .before .before .before .before .before .before .before .before .before .args .plan) (c .before .before .before .before .before .before .before .before .before .before .before .before .before .before .before .before .args .s) (c .before .before .before .before .before .before .before .before .before .before .before .before .before .before .before .before .args .v) (c .before .before .before .before .before .before .before .before .before .before .before .before .before .before .before .before .args .top) (c .before .before .before .before .before .before .before .before .before .before .before .before .before .before .before .before .pre .0) _ (c .before .before .before .before .before .before .before .before .before .before .before .before .before .before .before .before .pre .2) _ _ (c .before .before .before .before .before .before .before .before .before .before .index .ensures) (c .before .before .before .before .before .before .before .before .index2 .ensures) _ (c .before .before .before .before .called .ensures))
+
+same-length-3 : tie.Need-same-length-3
+same-length-3 c = search needs
+
+same-length-4 : tie.Need-same-length-4
+same-length-4 c = search needs
+
+returns-2 : tie.Need-returns-2
+returns-2 c = search needs
+
+pub ret-argument-spec : {M : Type 1} → statement M
+ret-argument-spec =
+    tie.close
+    (tie.spec
+    mul-b
+    add-index
+    mul-index
+    slice-read-index
+    index-requires
+    add-index-2
+    mul-index-2
+    slice-read-index-2
+    index-requires-2
+    add-index-3
+    mul-index-3
+    slice-read-index-3
+    index-requires-3
+    mul-called
+    shared-slice-read-called
+    called-requires
+    add-if1
+    arity-requires
+    next-argument-requires
+    same-length
+    same-length-2
+    returns
+    last-argument-requires
+    same-length-3
+    same-length-4
+    returns-2)

@@ -1,0 +1,33 @@
+-- `moves::ret_binding` meets its contract, by the laws of Returning, Steps.
+use Rattle.moves.proofs.Returning.{sitting, binding-few, stepped-binding}
+use Rattle.moves.proofs.Steps.{bounds}
+use Rattle.moves.specs.declared.Seat.{Seat}
+use lib.ListN.{getD}
+use Prim.Native.Nat.{_+_, _*_}
+use native.Mathlib.Omega.{arith}
+use mathlib.Core.Path.{_≡_, ap}
+use borrow.Author.Needs.{needs}
+use Rattle.moves.proofs.ret_binding.Statement.{statement}
+use Rattle.moves.proofs.ret_binding.Tie as tie
+
+child-requires : tie.Need-child-requires
+child-requires c κs = (sitting (c .before .before .before .before .before .args .words .now) (c .before .before .before .before .before .args .ws .now) (c .before .before .before .before .before .args .locals .now) (c .before .before .before .before .before .args .plan) (c .before .before .before .before .before .args .s) (c .before .before .before .before .before .args .v) (c .before .before .before .before .before .args .top) 3 (c .before .before .before .before .before .pre .0), c .before .before .before .before .before .pre .2)
+
+append-requires : tie.Need-append-requires
+append-requires c κs = let k : c .before .before .before .child .result .count ≡ getD (c .before .before .before .before .before .before .before .before .before .args .ws .now) (32 * c .before .before .before .before .before .before .before .before .before .args .top + 3) 0 = ap (λ (z : Seat). z .count) (c .before .before .before .child .ensures .seat) in omega (arith, c .before .before .before .child .ensures .loaded .sixteen, binding-few (c .before .before .before .before .before .before .before .before .before .args .words .now) (c .before .before .before .before .before .before .before .before .before .args .ws .now) (c .before .before .before .before .before .before .before .before .before .args .locals .now) (c .before .before .before .before .before .before .before .before .before .args .plan) (c .before .before .before .before .before .before .before .before .before .args .s) (c .before .before .before .before .before .before .before .before .before .args .v) (c .before .before .before .before .before .before .before .before .before .args .top) (c .before .before .before .before .before .before .before .before .before .pre .0))
+
+add-t17 : tie.Need-add-t17
+add-t17 c = let k : c .before .before .before .before .before .before .child .result .count ≡ getD (c .before .before .before .before .before .before .before .before .before .before .before .before .args .ws .now) (32 * c .before .before .before .before .before .before .before .before .before .before .before .before .args .top + 3) 0 = ap (λ (z : Seat). z .count) (c .before .before .before .before .before .before .child .ensures .seat) in omega (arith, binding-few (c .before .before .before .before .before .before .before .before .before .before .before .before .args .words .now) (c .before .before .before .before .before .before .before .before .before .before .before .before .args .ws .now) (c .before .before .before .before .before .before .before .before .before .before .before .before .args .locals .now) (c .before .before .before .before .before .before .before .before .before .before .before .before .args .plan) (c .before .before .before .before .before .before .before .before .before .before .before .before .args .s) (c .before .before .before .before .before .before .before .before .before .before .before .before .args .v) (c .before .before .before .before .before .before .before .before .before .before .before .before .args .top) (c .before .before .before .before .before .before .before .before .before .before .before .before .pre .0))
+
+tick-requires : tie.Need-tick-requires
+tick-requires c κs = let b = bounds (c .before .before .before .before .before .before .before .before .before .before .before .before .args .words .now) (c .before .before .before .before .before .before .before .before .before .before .before .before .args .ws .now) (c .before .before .before .before .before .before .before .before .before .before .before .before .args .locals .now) (c .before .before .before .before .before .before .before .before .before .before .before .before .args .plan) (c .before .before .before .before .before .before .before .before .before .before .before .before .args .s) (c .before .before .before .before .before .before .before .before .before .before .before .before .pre .0 .ready) in (b .0, b .1, b .2)
+
+same-length : tie.Need-same-length
+same-length c = search needs
+
+returns : tie.Need-returns
+returns c = stepped-binding (c .before .before .before .before .before .before .before .before .before .before .before .before .before .args .words .now) (c .before .before .before .before .before .before .before .before .before .before .before .before .before .args .ws .now) (c .before .before .before .before .before .before .before .before .before .before .before .before .before .args .locals .now) (c .before .before .before .before .before .before .before .before .before .before .before .before .before .args .plan) (c .before .before .before .before .before .before .before .before .before .before .before .before .before .args .s) (c .before .before .before .before .before .before .before .before .before .before .before .before .before .args .v) (c .before .before .before .before .before .before .before .before .before .before .before .before .before .args .top) (c .before .before .before .before .before .before .before .before .before .before .before .before .before .pre .0) (c .before .before .before .before .before .before .before .before .before .before .before .before .before .pre .1) _ _ _ (c .before .before .before .before .before .before .before .child .ensures) (c .before .before .before .append .ensures) _ (c .tick .ensures)
+
+pub ret-binding-spec : {M : Type 1} → statement M
+ret-binding-spec =
+    tie.close (tie.spec child-requires append-requires add-t17 tick-requires same-length returns)

@@ -1,0 +1,42 @@
+-- `moves::turned` meets its contract, by the laws of Returning.
+use Rattle.moves.proofs.Returning.{room, sitting-turned, stepped-turn}
+use borrow.Author.Needs.{needs}
+use Rattle.moves.proofs.turned.Statement.{statement}
+use Rattle.moves.proofs.turned.Tie as tie
+
+turn-requires : tie.Need-turn-requires
+turn-requires c κs = room (c .before .before .before .before .before .before .args .words .now) (c .before .before .before .before .before .before .args .ws .now) (c .before .before .before .before .before .before .args .locals .now) (c .before .before .before .before .before .before .args .plan) (c .before .before .before .before .before .before .args .s) (c .before .before .before .before .before .before .args .v) (c .before .before .before .before .before .before .args .top) 7 (c .before .before .before .before .before .before .pre .0)
+
+child-requires : tie.Need-child-requires
+child-requires c κs = (sitting-turned (c .before .before .before .before .before .before .before .before .before .before .before .args .words .now) (c .before .before .before .before .before .before .before .before .before .before .before .args .ws .now) (c .before .before .before .before .before .before .before .before .before .before .before .args .locals .now) (c .before .before .before .before .before .before .before .before .before .before .before .args .plan) (c .before .before .before .before .before .before .before .before .before .before .before .args .s) (c .before .before .before .before .before .before .before .before .before .before .before .args .v) (c .before .before .before .before .before .before .before .before .before .before .before .args .top) 7 (c .before .before .before .before .before .before .before .before .before .before .before .pre .0) 8 _ _ (c .before .before .before .before .turn .kept .0) (c .before .before .before .before .turn .ensures), c .before .before .before .before .before .before .before .before .before .before .before .pre .1)
+
+add-restart : tie.Need-add-restart
+add-restart c = search needs
+
+none-requires : tie.Need-none-requires
+none-requires c κs = search needs
+
+restart-requires : tie.Need-restart-requires
+restart-requires c κs = search needs
+
+same-length : tie.Need-same-length
+same-length c = search needs
+
+same-length-2 : tie.Need-same-length-2
+same-length-2 c = search needs
+
+returns : tie.Need-returns
+returns c = stepped-turn (c .before .before .before .before .before .before .before .before .before .before .before .before .before .before .before .before .args .words .now) (c .before .before .before .before .before .before .before .before .before .before .before .before .before .before .before .before .args .ws .now) (c .before .before .before .before .before .before .before .before .before .before .before .before .before .before .before .before .args .locals .now) (c .before .before .before .before .before .before .before .before .before .before .before .before .before .before .before .before .args .plan) (c .before .before .before .before .before .before .before .before .before .before .before .before .before .before .before .before .args .s) (c .before .before .before .before .before .before .before .before .before .before .before .before .before .before .before .before .args .v) (c .before .before .before .before .before .before .before .before .before .before .before .before .before .before .before .before .args .top) (c .before .before .before .before .before .before .before .before .before .before .before .before .before .before .before .before .pre .0) _ _ _ (c .before .before .before .before .before .before .before .before .before .turn .kept .0) (c .before .before .before .before .before .before .before .before .before .turn .ensures) (c .before .before .before .before .child .ensures) _ (rw (c .before .none .ensures) at (c .restart .ensures))
+
+pub turned-spec : {M : Type 1} → statement M
+turned-spec =
+    tie.close
+    (tie.spec
+    turn-requires
+    child-requires
+    add-restart
+    none-requires
+    restart-requires
+    same-length
+    same-length-2
+    returns)

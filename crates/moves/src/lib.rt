@@ -1,0 +1,737 @@
+// One move of the flat machine under a schedule, with its frames in a lent workspace.
+
+use arithmetic::Computed;
+use schedule::Credits;
+use schedule::Fuel;
+use schedule::Span;
+use table::Node;
+ghost use mathlib.Core.Path.{_≡_};
+ghost use mathlib.Core.Bool.{_&&_};
+ghost use Prim.Native.Nat.{_+_, _*_, _/_, _<_, _≤_, _^_, max};
+ghost use lib.ListN.{length, getD};
+ghost use lib.Dec.{ltb, leb};
+ghost use Rattle.table.specs.Words.{arityAt};
+ghost use Rattle.table.specs.Read.{startsOf};
+ghost use Rattle.moves.specs.Layout.{ticked, restarted, risen, oldestWith, oldestWithout, halted};
+ghost use Rattle.moves.specs.Ready.{Ready, Evaluates, Returns, Paid, Stepped, Advanced, Framed, transited, Opened, Forked, OpenedBoth, Sitting, Child, Operand, operation, calledAt, Concluded, Found, Promoted};
+
+// A node of a function with its number of locals, or a value that returns.
+pub enum Control {
+    Eval(usize, usize, usize),
+    Ret(u64),
+}
+
+// What a run carries beside its workspace and its locals.
+pub struct Registers {
+    pub control: Control,
+    // The frames that are occupied.
+    pub depth: usize,
+    // The oldest plain fork that awaits its left, or 4096.
+    pub oldest: usize,
+    pub credits: Credits,
+    pub span: Span,
+    pub transitions: u64,
+    pub forks: u64,
+    // The most frames that were occupied at once.
+    pub deepest: usize,
+}
+
+// A schedule by its two flags, with the run's settings. A period above the fuel is never reached.
+pub struct Plan {
+    pub birth: bool,
+    pub period: u64,
+    pub tau: u64,
+    pub fuel: Fuel,
+}
+
+// The number of a stop, with its function and node.
+pub struct Stopped {
+    pub number: u32,
+    pub function: usize,
+    pub node: usize,
+}
+
+// What a move, or an operation, comes to.
+pub enum Step {
+    Go(Registers),
+    Value(u64),
+    Halt(Stopped),
+}
+
+// Where a frame's node stands.
+pub struct Seat {
+    pub function: usize,
+    pub node: usize,
+    pub count: usize,
+}
+
+fn index(x: u64) -> usize
+    ensures { λ r. ⌜ r ≡ x ⌝ }
+{
+    x as usize
+}
+
+fn higher(a: usize, b: usize) -> usize
+    ensures { λ r. ⌜ r ≡ max a b ⌝ }
+{
+    if b <= a { a } else { b }
+}
+
+fn halt(number: u32, function: usize, node: usize) -> Step
+    ensures { λ r. ⌜ r ≡ halted number function node ⌝ }
+{
+    Step::Halt(Stopped {
+        number,
+        function,
+        node,
+    })
+}
+
+// One transition more.
+fn tick(s: Registers, control: Control, depth: usize, oldest: usize) -> Registers
+    requires { ⌜ (s .credits .0 < 2 ^ 60) × (s .span .0 < 2 ^ 60) × (s .transitions < 2 ^ 60) ⌝ }
+    ensures { λ r. ⌜ r ≡ ticked s control depth oldest ⌝ }
+{
+    let credits = s.credits;
+    let span = s.span;
+    let more = credits.one_more();
+    let longer = span.one_more();
+    Registers {
+        control,
+        depth,
+        oldest,
+        credits: more,
+        span: longer,
+        transitions: s.transitions + 1,
+        forks: s.forks,
+        deepest: s.deepest,
+    }
+}
+
+// A machine that starts afresh.
+fn restart(
+    s: Registers,
+    control: Control,
+    depth: usize,
+    oldest: usize,
+    span: Span,
+    forks: u64,
+) -> Registers
+    ensures { λ r. ⌜ r ≡ restarted s control depth oldest (span .0) forks ⌝ }
+{
+    let credits = Credits::none();
+    Registers {
+        control,
+        depth,
+        oldest,
+        credits,
+        span,
+        transitions: s.transitions,
+        forks,
+        deepest: s.deepest,
+    }
+}
+
+// One frame more at once.
+fn rise(s: Registers) -> Registers
+    requires { ⌜ s .depth < 4096 ⌝ }
+    ensures { λ r. ⌜ r ≡ risen s ⌝ }
+{
+    let control = s.control;
+    let credits = s.credits;
+    let span = s.span;
+    let deepest = higher(s.deepest, s.depth + 1);
+    Registers {
+        control,
+        depth: s.depth,
+        oldest: s.oldest,
+        credits,
+        span,
+        transitions: s.transitions,
+        forks: s.forks,
+        deepest,
+    }
+}
+
+// A transition that opens no frame, if there is fuel.
+fn transit(plan: Plan, s: Registers, seat: Seat, control: Control) -> Step
+    requires { ⌜ (s .credits .0 < 2 ^ 60) × (s .span .0 < 2 ^ 60) × (s .transitions < 2 ^ 60) ⌝ }
+    ensures { λ r. ⌜ r ≡ transited plan s seat control ⌝ }
+{
+    let fuel = plan.fuel;
+    if fuel.allows(s.transitions) {
+        return Step::Go(tick(s, control, s.depth, s.oldest));
+    }
+    halt(20, seat.function, seat.node)
+}
+
+// A transition that opens a frame, if there is fuel and then a free frame.
+fn open(
+    ws: &mut [u64],
+    locals: &[u64],
+    plan: Plan,
+    s: Registers,
+    seat: Seat,
+    kind: u64,
+    oldest: usize,
+) -> Step
+    requires { ⌜ Framed (now ws) (now locals) s seat ⌝ }
+    ensures { λ r. ⌜ Opened (now (ws .entry)) (now (ws .exit)) (now (locals .entry)) plan s seat kind oldest r ⌝ }
+{
+    let depth = s.depth;
+    let f = seat.function;
+    let p = seat.node;
+    let k = seat.count;
+    let fuel = plan.fuel;
+    if fuel.allows(s.transitions) {
+        if depth < ws.len() / 32 {
+            frames::push(ws, depth, kind, f, p, k, locals, 0);
+            let up = rise(s);
+            return Step::Go(tick(up, Control::Eval(f, p + 1, k), depth + 1, oldest));
+        }
+        return halt(21, f, p);
+    }
+    halt(20, f, p)
+}
+
+// Opens a fork that is promoted at its birth, with no transition.
+fn fork(ws: &mut [u64], locals: &[u64], s: Registers, seat: Seat) -> Step
+    requires { ⌜ Framed (now ws) (now locals) s seat ⌝ }
+    ensures { λ r. ⌜ Forked (now (ws .entry)) (now (ws .exit)) (now (locals .entry)) s seat r ⌝ }
+{
+    let depth = s.depth;
+    let f = seat.function;
+    let p = seat.node;
+    let k = seat.count;
+    let span = s.span;
+    if depth < ws.len() / 32 {
+        frames::push(ws, depth, 7, f, p, k, locals, span.0);
+        let up = rise(s);
+        return Step::Go(restart(
+            up,
+            Control::Eval(f, p + 1, k),
+            depth + 1,
+            s.oldest,
+            Span::none(),
+            s.forks + 1,
+        ));
+    }
+    halt(21, f, p)
+}
+
+// The oldest plain fork that awaits its left where one more is opened.
+fn oldest_with(oldest: usize, depth: usize) -> usize
+    ensures { λ r. ⌜ r ≡ oldestWith oldest depth ⌝ }
+{
+    if oldest < depth { oldest } else { depth }
+}
+
+// The same where the one at `top` is none any more.
+fn oldest_without(oldest: usize, top: usize) -> usize
+    ensures { λ r. ⌜ r ≡ oldestWithout oldest top ⌝ }
+{
+    if oldest == top { 4096 } else { oldest }
+}
+
+// Evaluates a "both": a parallel fork looks only for its frame.
+fn evaluate_both(ws: &mut [u64], locals: &[u64], plan: Plan, s: Registers, seat: Seat) -> Step
+    requires { ⌜ Framed (now ws) (now locals) s seat ⌝ }
+    ensures { λ r. ⌜ OpenedBoth (now (ws .entry)) (now (ws .exit)) (now (locals .entry)) plan s seat r ⌝ }
+{
+    if plan.birth {
+        return fork(ws, locals, s, seat);
+    }
+    let oldest = oldest_with(s.oldest, s.depth);
+    open(ws, locals, plan, s, seat, 5, oldest)
+}
+
+// Evaluates a node.
+fn evaluate(
+    words: &[u32],
+    starts: &[usize],
+    ws: &mut [u64],
+    locals: &[u64],
+    plan: Plan,
+    s: Registers,
+    seat: Seat,
+) -> Step
+    requires { ⌜ (Evaluates (now words) (now ws) (now locals) plan s seat) × (now starts ≡ startsOf (now words)) ⌝ }
+    ensures { λ r. ⌜ Stepped (now (words .entry)) (now (ws .entry)) (now (locals .entry)) plan s (now (ws .exit)) (now (locals .entry)) r ⌝ }
+{
+    let f = seat.function;
+    let p = seat.node;
+    match table::node_at(words, starts[f], p) {
+        Node::Constant(v) => transit(plan, s, seat, Control::Ret(v)),
+        Node::Local(slot) => transit(plan, s, seat, Control::Ret(locals[slot])),
+        Node::Arithmetic(_, _) => open(ws, locals, plan, s, seat, 0, s.oldest),
+        Node::Choose(_, _) => open(ws, locals, plan, s, seat, 2, s.oldest),
+        Node::Let(_) => open(ws, locals, plan, s, seat, 3, s.oldest),
+        Node::Call(g, _, _) => {
+            if table::arity(words, g) == 0 {
+                transit(plan, s, seat, Control::Eval(g, 0, 0))
+            } else {
+                open(ws, locals, plan, s, seat, 4, s.oldest)
+            }
+        }
+        Node::Both(_, _) => evaluate_both(ws, locals, plan, s, seat),
+        Node::Unknown => halt(4, f, p),
+    }
+}
+
+// The second child of the frame's node, or its third, with the frame's locals.
+fn child(
+    words: &[u32],
+    starts: &[usize],
+    ws: &[u64],
+    locals: &mut [u64],
+    top: usize,
+    last: bool,
+) -> Seat
+    requires { ⌜ (Sitting (now words) (now ws) (now locals) top) × (now starts ≡ startsOf (now words)) ⌝ }
+    ensures { λ r. ⌜ Child (now (words .entry)) (now (ws .entry)) (32 * top) last (now (locals .exit)) r ⌝ }
+{
+    let b = 32 * top;
+    let function = index(ws[b + 1]);
+    let p = index(ws[b + 2]);
+    let count = index(ws[b + 3]);
+    frames::load(locals, ws, top, count);
+    let start = starts[function];
+    if last {
+        return Seat {
+            function,
+            node: table::third(words, start, p),
+            count,
+        };
+    }
+    Seat {
+        function,
+        node: table::second(words, start, p),
+        count,
+    }
+}
+
+// A left operand: the right one is evaluated.
+fn ret_left_operand(
+    words: &[u32],
+    starts: &[usize],
+    ws: &mut [u64],
+    locals: &mut [u64],
+    plan: Plan,
+    s: Registers,
+    v: u64,
+    top: usize,
+) -> Step
+    requires { ⌜ (Returns (now words) (now ws) (now locals) plan s v top 0) × (Paid plan s) × (now starts ≡ startsOf (now words)) ⌝ }
+    ensures { λ r. ⌜ Stepped (now (words .entry)) (now (ws .entry)) (now (locals .entry)) plan s (now (ws .exit)) (now (locals .exit)) r ⌝ }
+{
+    frames::turn(ws, top, 1, v, 0);
+    let seat = child(words, starts, ws, locals, top, false);
+    Step::Go(tick(
+        s,
+        Control::Eval(seat.function, seat.node, seat.count),
+        top + 1,
+        s.oldest,
+    ))
+}
+
+// What an arithmetic frame's operation gives on its left operand and v.
+fn operated(words: &[u32], starts: &[usize], ws: &[u64], top: usize, v: u64) -> Step
+    requires { ⌜ (Operand (now words) (now ws) top) × (now starts ≡ startsOf (now words)) ⌝ }
+    ensures { λ r. ⌜ r ≡ operation (now (words .entry)) (now (ws .entry)) (32 * top) v ⌝ }
+{
+    let b = 32 * top;
+    let function = index(ws[b + 1]);
+    let p = index(ws[b + 2]);
+    let node = table::node_at(words, starts[function], p);
+    let Node::Arithmetic(operation, _) = node else {
+        return halt(4, function, p);
+    };
+    match arithmetic::operate(operation, ws[b + 4], v) {
+        Computed::Is(r) => Step::Value(r),
+        Computed::Fails(number) => halt(number, function, p),
+    }
+}
+
+// A right operand: the result is returned, or the stop ends the run.
+fn ret_right_operand(
+    words: &[u32],
+    starts: &[usize],
+    ws: &[u64],
+    locals: &[u64],
+    plan: Plan,
+    s: Registers,
+    v: u64,
+    top: usize,
+) -> Step
+    requires { ⌜ (Returns (now words) (now ws) (now locals) plan s v top 1) × (Paid plan s) × (now starts ≡ startsOf (now words)) ⌝ }
+    ensures { λ r. ⌜ Stepped (now (words .entry)) (now (ws .entry)) (now (locals .entry)) plan s (now (ws .entry)) (now (locals .entry)) r ⌝ }
+{
+    let computed = operated(words, starts, ws, top, v);
+    let Step::Value(r) = computed else {
+        return computed;
+    };
+    Step::Go(tick(s, Control::Ret(r), top, s.oldest))
+}
+
+// A condition: the branch is evaluated.
+fn ret_condition(
+    words: &[u32],
+    starts: &[usize],
+    ws: &[u64],
+    locals: &mut [u64],
+    plan: Plan,
+    s: Registers,
+    v: u64,
+    top: usize,
+) -> Step
+    requires { ⌜ (Returns (now words) (now ws) (now locals) plan s v top 2) × (Paid plan s) × (now starts ≡ startsOf (now words)) ⌝ }
+    ensures { λ r. ⌜ Stepped (now (words .entry)) (now (ws .entry)) (now (locals .entry)) plan s (now (ws .entry)) (now (locals .exit)) r ⌝ }
+{
+    let seat = child(words, starts, ws, locals, top, v == 0);
+    Step::Go(tick(
+        s,
+        Control::Eval(seat.function, seat.node, seat.count),
+        top,
+        s.oldest,
+    ))
+}
+
+// The first of a let: the second is evaluated with the value added.
+fn ret_binding(
+    words: &[u32],
+    starts: &[usize],
+    ws: &[u64],
+    locals: &mut [u64],
+    plan: Plan,
+    s: Registers,
+    v: u64,
+    top: usize,
+) -> Step
+    requires { ⌜ (Returns (now words) (now ws) (now locals) plan s v top 3) × (Paid plan s) × (now starts ≡ startsOf (now words)) ⌝ }
+    ensures { λ r. ⌜ Stepped (now (words .entry)) (now (ws .entry)) (now (locals .entry)) plan s (now (ws .entry)) (now (locals .exit)) r ⌝ }
+{
+    let seat = child(words, starts, ws, locals, top, false);
+    let count = seat.count;
+    frames::append(locals, count, v);
+    Step::Go(tick(
+        s,
+        Control::Eval(seat.function, seat.node, count + 1),
+        top,
+        s.oldest,
+    ))
+}
+
+// An argument that is not the last: the next one is evaluated.
+fn next_argument(
+    words: &[u32],
+    starts: &[usize],
+    ws: &mut [u64],
+    locals: &mut [u64],
+    plan: Plan,
+    s: Registers,
+    v: u64,
+    top: usize,
+    n: usize,
+) -> Step
+    requires { ⌜ (Returns (now words) (now ws) (now locals) plan s v top 4) × (Paid plan s) × (now starts ≡ startsOf (now words)) × (n ≡ getD (now ws) (32 * top + 4) 0) × (n + 1 < arityAt (now words) (calledAt (now words) (now ws) (32 * top))) ⌝ }
+    ensures { λ r. ⌜ Stepped (now (words .entry)) (now (ws .entry)) (now (locals .entry)) plan s (now (ws .exit)) (now (locals .exit)) r ⌝ }
+{
+    frames::collect(ws, top, n, v);
+    let seat = child(words, starts, ws, locals, top, 1 < n + 1);
+    Step::Go(tick(
+        s,
+        Control::Eval(seat.function, seat.node, seat.count),
+        top + 1,
+        s.oldest,
+    ))
+}
+
+// The last argument: the called body is evaluated with just the arguments.
+fn last_argument(
+    words: &[u32],
+    ws: &[u64],
+    locals: &mut [u64],
+    plan: Plan,
+    s: Registers,
+    v: u64,
+    top: usize,
+    n: usize,
+    g: usize,
+) -> Step
+    requires { ⌜ (Returns (now words) (now ws) (now locals) plan s v top 4) × (Paid plan s) × (n ≡ getD (now ws) (32 * top + 4) 0) × (arityAt (now words) g ≤ n + 1) × (g ≡ calledAt (now words) (now ws) (32 * top)) ⌝ }
+    ensures { λ r. ⌜ Stepped (now (words .entry)) (now (ws .entry)) (now (locals .entry)) plan s (now (ws .entry)) (now (locals .exit)) r ⌝ }
+{
+    frames::load_arguments(locals, ws, top, n);
+    frames::append(locals, n, v);
+    Step::Go(tick(s, Control::Eval(g, 0, n + 1), top, s.oldest))
+}
+
+// An argument of a call.
+fn ret_argument(
+    words: &[u32],
+    starts: &[usize],
+    ws: &mut [u64],
+    locals: &mut [u64],
+    plan: Plan,
+    s: Registers,
+    v: u64,
+    top: usize,
+) -> Step
+    requires { ⌜ (Returns (now words) (now ws) (now locals) plan s v top 4) × (Paid plan s) × (now starts ≡ startsOf (now words)) ⌝ }
+    ensures { λ r. ⌜ Stepped (now (words .entry)) (now (ws .entry)) (now (locals .entry)) plan s (now (ws .exit)) (now (locals .exit)) r ⌝ }
+{
+    let b = 32 * top;
+    let function = index(ws[b + 1]);
+    let p = index(ws[b + 2]);
+    let n = index(ws[b + 4]);
+    let g = table::called(words, starts[function], p);
+    if n + 1 < table::arity(words, g) {
+        return next_argument(words, starts, ws, locals, plan, s, v, top, n);
+    }
+    last_argument(words, ws, locals, plan, s, v, top, n, g)
+}
+
+// The left value of a plain fork: the right branch is evaluated.
+fn ret_plain_left(
+    words: &[u32],
+    starts: &[usize],
+    ws: &mut [u64],
+    locals: &mut [u64],
+    plan: Plan,
+    s: Registers,
+    v: u64,
+    top: usize,
+) -> Step
+    requires { ⌜ (Returns (now words) (now ws) (now locals) plan s v top 5) × (Paid plan s) × (now starts ≡ startsOf (now words)) ⌝ }
+    ensures { λ r. ⌜ Stepped (now (words .entry)) (now (ws .entry)) (now (locals .entry)) plan s (now (ws .exit)) (now (locals .exit)) r ⌝ }
+{
+    frames::turn(ws, top, 6, v, 0);
+    let seat = child(words, starts, ws, locals, top, false);
+    let oldest = oldest_without(s.oldest, top);
+    Step::Go(tick(
+        s,
+        Control::Eval(seat.function, seat.node, seat.count),
+        top + 1,
+        oldest,
+    ))
+}
+
+// The body of a fork's node, with both values.
+fn body(
+    words: &[u32],
+    starts: &[usize],
+    ws: &[u64],
+    locals: &mut [u64],
+    top: usize,
+    v: u64,
+) -> Control
+    requires { ⌜ (Sitting (now words) (now ws) (now locals) top) × (now starts ≡ startsOf (now words)) × (getD (now ws) (32 * top + 3) 0 + 2 ≤ 16) ⌝ }
+    ensures { λ r. ⌜ Concluded (now (words .entry)) (now (ws .entry)) (32 * top) v (now (locals .exit)) r ⌝ }
+{
+    let left = ws[32 * top + 4];
+    let seat = child(words, starts, ws, locals, top, true);
+    let count = seat.count;
+    frames::append(locals, count, left);
+    frames::append(locals, count + 1, v);
+    Control::Eval(seat.function, seat.node, count + 2)
+}
+
+// The right value of a plain fork: its body is evaluated.
+fn ret_plain_right(
+    words: &[u32],
+    starts: &[usize],
+    ws: &[u64],
+    locals: &mut [u64],
+    plan: Plan,
+    s: Registers,
+    v: u64,
+    top: usize,
+) -> Step
+    requires { ⌜ (Returns (now words) (now ws) (now locals) plan s v top 6) × (Paid plan s) × (now starts ≡ startsOf (now words)) ⌝ }
+    ensures { λ r. ⌜ Stepped (now (words .entry)) (now (ws .entry)) (now (locals .entry)) plan s (now (ws .entry)) (now (locals .exit)) r ⌝ }
+{
+    let control = body(words, starts, ws, locals, top, v);
+    Step::Go(tick(s, control, top, s.oldest))
+}
+
+// The left value of a promoted fork, with no transition: the right branch is a fresh machine.
+fn turned(
+    words: &[u32],
+    starts: &[usize],
+    ws: &mut [u64],
+    locals: &mut [u64],
+    plan: Plan,
+    s: Registers,
+    v: u64,
+    top: usize,
+) -> Step
+    requires { ⌜ (Returns (now words) (now ws) (now locals) plan s v top 7) × (now starts ≡ startsOf (now words)) ⌝ }
+    ensures { λ r. ⌜ Stepped (now (words .entry)) (now (ws .entry)) (now (locals .entry)) plan s (now (ws .exit)) (now (locals .exit)) r ⌝ }
+{
+    let span = s.span;
+    frames::turn(ws, top, 8, v, span.0);
+    let seat = child(words, starts, ws, locals, top, false);
+    Step::Go(restart(
+        s,
+        Control::Eval(seat.function, seat.node, seat.count),
+        top + 1,
+        s.oldest,
+        Span::none(),
+        s.forks,
+    ))
+}
+
+// The right value of a promoted fork, with no transition: the body goes on after both.
+fn joined(
+    words: &[u32],
+    starts: &[usize],
+    ws: &[u64],
+    locals: &mut [u64],
+    plan: Plan,
+    s: Registers,
+    v: u64,
+    top: usize,
+    kind: u64,
+) -> Step
+    requires { ⌜ (Returns (now words) (now ws) (now locals) plan s v top kind) × (8 ≤ kind) × (now starts ≡ startsOf (now words)) ⌝ }
+    ensures { λ r. ⌜ Stepped (now (words .entry)) (now (ws .entry)) (now (locals .entry)) plan s (now (ws .entry)) (now (locals .exit)) r ⌝ }
+{
+    let before = Span(ws[32 * top + 5]);
+    let left = Span(ws[32 * top + 6]);
+    let right = s.span;
+    let whole = before.joined(plan.tau, left, right);
+    let control = body(words, starts, ws, locals, top, v);
+    Step::Go(restart(s, control, top, s.oldest, whole, s.forks))
+}
+
+// A value returns by a transition, to a frame that is not promoted.
+fn ret_paid(
+    words: &[u32],
+    starts: &[usize],
+    ws: &mut [u64],
+    locals: &mut [u64],
+    plan: Plan,
+    s: Registers,
+    v: u64,
+    top: usize,
+    kind: u64,
+) -> Step
+    requires { ⌜ (Returns (now words) (now ws) (now locals) plan s v top kind) × (kind < 7) × (Paid plan s) × (now starts ≡ startsOf (now words)) ⌝ }
+    ensures { λ r. ⌜ Stepped (now (words .entry)) (now (ws .entry)) (now (locals .entry)) plan s (now (ws .exit)) (now (locals .exit)) r ⌝ }
+{
+    match kind {
+        0 => ret_left_operand(words, starts, ws, locals, plan, s, v, top),
+        1 => ret_right_operand(words, starts, ws, locals, plan, s, v, top),
+        2 => ret_condition(words, starts, ws, locals, plan, s, v, top),
+        3 => ret_binding(words, starts, ws, locals, plan, s, v, top),
+        4 => ret_argument(words, starts, ws, locals, plan, s, v, top),
+        5 => ret_plain_left(words, starts, ws, locals, plan, s, v, top),
+        _ => ret_plain_right(words, starts, ws, locals, plan, s, v, top),
+    }
+}
+
+// A value returns to the newest frame, or ends the run.
+fn ret(
+    words: &[u32],
+    starts: &[usize],
+    ws: &mut [u64],
+    locals: &mut [u64],
+    plan: Plan,
+    s: Registers,
+    v: u64,
+) -> Step
+    requires { ⌜ (Ready (now words) (now ws) (now locals) plan s) × (s .control ≡ Control.Ret v) × (now starts ≡ startsOf (now words)) ⌝ }
+    ensures { λ r. ⌜ Stepped (now (words .entry)) (now (ws .entry)) (now (locals .entry)) plan s (now (ws .exit)) (now (locals .exit)) r ⌝ }
+{
+    let depth = s.depth;
+    if depth == 0 {
+        return Step::Value(v);
+    }
+    let top = depth - 1;
+    let kind = ws[32 * top];
+    if kind == 7 {
+        return turned(words, starts, ws, locals, plan, s, v, top);
+    }
+    if 7 < kind {
+        return joined(words, starts, ws, locals, plan, s, v, top, kind);
+    }
+    let fuel = plan.fuel;
+    if fuel.allows(s.transitions) {
+        return ret_paid(words, starts, ws, locals, plan, s, v, top, kind);
+    }
+    halt(20, index(ws[32 * top + 1]), index(ws[32 * top + 2]))
+}
+
+// The next plain fork from a place on, upward.
+fn search(ws: &[u64], from: usize, depth: usize) -> usize
+    requires { ⌜ (32 * depth ≤ length (now ws)) × (from ≤ depth) × (depth ≤ 4096) ⌝ }
+    ensures { λ r. ⌜ Found (now (ws .entry)) from depth r ⌝ }
+{
+    let mut i = from;
+    while i < depth {
+        if ws[32 * i] == 5 {
+            return i;
+        }
+        i += 1;
+    }
+    4096
+}
+
+// Promotes the oldest plain fork.
+fn promote(ws: &mut [u64], s: Registers) -> Registers
+    requires { ⌜ (32 * (s .depth) ≤ length (now ws)) × (s .oldest < s .depth) × (s .depth ≤ 4096) × (s .forks < 2 ^ 60) ⌝ }
+    ensures { λ r. ⌜ Promoted (now (ws .entry)) s (now (ws .exit)) r ⌝ }
+{
+    let at = s.oldest;
+    let span = s.span;
+    let control = s.control;
+    frames::mark(ws, at, 7, span.0);
+    let next = search(ws, at + 1, s.depth);
+    restart(s, control, s.depth, next, Span::none(), s.forks + 1)
+}
+
+// Whether a promotion is due.
+fn due(period: u64, credits: Credits, oldest: usize, depth: usize) -> bool
+    ensures { λ r. ⌜ r ≡ (leb period (credits .0) && ltb oldest depth) ⌝ }
+{
+    if credits.reach(period) {
+        oldest < depth
+    } else {
+        false
+    }
+}
+
+// One move: a promotion that is due, or else any other.
+pub fn advance(
+    words: &[u32],
+    starts: &[usize],
+    ws: &mut [u64],
+    locals: &mut [u64],
+    plan: Plan,
+    s: Registers,
+) -> Step
+    requires { ⌜ (Ready (now words) (now ws) (now locals) plan s) × (now starts ≡ startsOf (now words)) ⌝ }
+    ensures { λ r. ⌜ Advanced (now (words .entry)) (now (ws .entry)) (now (locals .entry)) plan s (now (ws .exit)) (now (locals .exit)) r ⌝ }
+{
+    let credits = s.credits;
+    if due(plan.period, credits, s.oldest, s.depth) {
+        return Step::Go(promote(ws, s));
+    }
+    let control = s.control;
+    match control {
+        Control::Eval(function, node, count) => evaluate(
+            words,
+            starts,
+            ws,
+            locals,
+            plan,
+            s,
+            Seat {
+                function,
+                node,
+                count,
+            },
+        ),
+        Control::Ret(v) => ret(words, starts, ws, locals, plan, s, v),
+    }
+}
