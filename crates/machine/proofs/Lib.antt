@@ -1,0 +1,3 @@
+-- The laws behind the machines: the loop's invariant, and from a run to the three answers.
+pub mod Running
+pub mod Machines

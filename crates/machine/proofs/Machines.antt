@@ -1,0 +1,126 @@
+-- From a run to the three machines: the arguments as locals, the check before the run, and the three answers together.
+--     copied            the copied arguments are the first locals
+--     few               there is room for them
+--     ran-with          so that the run is that of the arguments
+--     settled           what the check assures of the settings
+--     tells-run         an accepted input's answer is that of its run
+--     tells-refusal     a refused one's is the refusal
+--     sequential-suits, parallel-suits, heartbeat-suits     the flags of the three
+--     left-length, all-three     one workspace for all three
+use Prim.Native.Nat.{ℕ, _+_, _≤_}
+use mathlib.Core.Path.{_≡_, refl, sym, ap, _∙_}
+use mathlib.Core.Bool.{Bool, true, false}
+use mathlib.Core.List.{List}
+use native.Mathlib.Omega.{arith}
+use lib.ListN.{length, take, drop, replicate, length-replicate}
+use lib.Seq.{paste, take-paste, take-all}
+use Rattle.schedule.specs.Graph.{Graph}
+use Rattle.schedule.specs.Machine.{Schedule, sequential, parallel, heartbeat, Outcome, ended, ongoing, value, stop}
+use Rattle.schedule.specs.Bounds.{Flags}
+use Rattle.table.specs.declared.Refusal.{Refusal}
+use Rattle.table.specs.declared.Reading.{Reading}
+use Rattle.table.specs.declared.Reading.the-variants as reading
+use Rattle.language.specs.declared.Answer.{Answer}
+use Rattle.language.specs.declared.Answer.the-variants.{Value, Stopped, Refused}
+use Rattle.language.specs.Checks.{framesIn, checkedOf}
+use Rattle.language.specs.Admitted.{Admitted}
+use Rattle.language.specs.Answers.{toldBy, afterCheck, runOf, answerOf, sequentialOf, parallelOf, heartbeatOf}
+use Rattle.language.proofs.Told.{answer-refused, answer-run}
+use Rattle.language.proofs.Claim.{claim-of}
+use Rattle.moves.specs.declared.Plan.{Plan}
+use Rattle.machine.specs.declared.Answers.{Answers}
+use Rattle.moves.specs.Ready.{Settled}
+use Rattle.machine.specs.Workspace.{leftBy}
+use Rattle.machine.specs.Runs.{Accepted, Ran, Suits, Tells}
+use Rattle.machine.specs.AllThree.{AllThree}
+
+pub copied : (before arguments after : List ℕ) → length arguments ≤ length before
+    → after ≡ paste before 0 (drop 0 arguments) (length arguments) → take (length arguments) after ≡ arguments
+copied before arguments after h e =
+    let whole : length arguments ≡ 0 + length arguments = omega arith in
+    rw e (ap (λ (n : ℕ). take n (paste before 0 arguments (length arguments))) whole ∙ take-paste before 0 arguments (length arguments) (omega arith) (omega arith) ∙ take-all (length arguments) arguments (omega arith))
+
+pub few : (w arguments ws : List ℕ) (plan : Plan) → Accepted w arguments ws plan → length arguments ≤ 3
+few w arguments ws plan a = omega (arith, a .count, a .table .contents .entries 0 (a .table .contents .header .some) .arity)
+
+pub ran-with : (w from arguments : List ℕ) (size : ℕ) (plan : Plan) (r : Answer) → from ≡ arguments → Ran w from size plan r → Ran w arguments size plan r
+ran-with w from arguments size plan r e h = rw e at h
+
+pub settled : (w : List ℕ) (count N : ℕ) (ws : List ℕ) (plan : Plan) → Admitted w count (plan .fuel .0) N (plan .tau) (length ws) → Settled ws plan
+settled w count N ws plan a = record { fuel = a .fuel .most; tau = a .tau .most; frames = a .frames .most }
+
+module _ (w arguments : List ℕ) (N size : ℕ) where
+  pub tells-run : (plan : Plan) (r : Answer) → checkedOf w (length arguments) (plan .fuel .0) N (plan .tau) size ≡ reading.Accepted
+      → Admitted w (length arguments) (plan .fuel .0) N (plan .tau) size → Ran w arguments size plan r
+      → Tells w arguments (plan .fuel .0) N (plan .tau) size (plan .birth) (plan .period) r
+  tells-run plan r e a ran = λ m h. ran .answers m (h (a .fuel .most)) ∙ answer-run m w arguments (plan .fuel .0) N (plan .tau) size e
+
+  pub tells-refusal : (fuel τ : ℕ) (birth : Bool) (pace : ℕ) (f : Refusal) → checkedOf w (length arguments) fuel N τ size ≡ reading.Refused f
+      → Tells w arguments fuel N τ size birth pace (Refused f)
+  tells-refusal fuel τ birth pace f e = λ m h. answer-refused m w arguments fuel N τ size f e
+
+pub sequential-suits : (fuel : ℕ) → Suits fuel sequential false 18446744073709551615
+unfolding Flags
+sequential-suits fuel h = (refl, omega arith)
+
+pub parallel-suits : (fuel : ℕ) → Suits fuel parallel true 18446744073709551615
+unfolding Flags
+parallel-suits fuel h = (refl, omega arith)
+
+pub heartbeat-suits : (fuel N : ℕ) → Suits fuel (heartbeat N) false N
+unfolding Flags
+heartbeat-suits fuel N h = (refl, refl)
+
+-- ONE WORKSPACE: by what the check says
+unfoldable leftAfter : Reading → List ℕ → List ℕ
+leftAfter reading.Accepted ws = replicate (length ws) 0
+leftAfter (reading.Refused r) ws = ws
+
+told-left : {X : Type 0} (τ : ℕ) (o : Outcome Graph X) (ws : List ℕ) → leftBy (toldBy τ o) ws ≡ replicate (length ws) 0
+unfolding leftBy toldBy
+told-left τ (ended (value v) g t) ws = refl
+told-left τ (ended (stop i p) g t) ws = refl
+told-left τ (ongoing s) ws = refl
+
+left-answer : (m : Schedule) (w arguments : List ℕ) (fuel N τ size : ℕ) (ws : List ℕ)
+    → leftBy (answerOf m w arguments fuel N τ size) ws ≡ leftAfter (checkedOf w (length arguments) fuel N τ size) ws
+unfolding answerOf afterCheck runOf leftBy leftAfter
+left-answer m w arguments fuel N τ size ws = by (checkedOf w (length arguments) fuel N τ size)
+  where
+    by : (c : Reading) → leftBy (afterCheck c (runOf m w arguments fuel τ size)) ws ≡ leftAfter c ws
+    by reading.Accepted = told-left τ _ ws
+    by (reading.Refused r) = refl
+
+pub left-length : (a : Answer) (ws : List ℕ) → length (leftBy a ws) ≡ length ws
+unfolding leftBy
+left-length (Value v t) ws = length-replicate _ _
+left-length (Stopped s) ws = length-replicate _ _
+left-length (Refused r) ws = refl
+
+left-again : (c : Reading) (ws : List ℕ) → leftAfter c (leftAfter c ws) ≡ leftAfter c ws
+unfolding leftAfter
+left-again reading.Accepted ws = simp length-replicate
+left-again (reading.Refused r) ws = refl
+
+module _ (w arguments : List ℕ) (fuel N τ : ℕ) (ws ws₁ ws₂ ws₃ : List ℕ) (s p h : Answer) where
+  pub all-three : s ≡ sequentialOf w arguments fuel N τ (length ws) → ws₁ ≡ leftBy s ws
+      → p ≡ parallelOf w arguments fuel N τ (length ws₁) → ws₂ ≡ leftBy p ws₁
+      → h ≡ heartbeatOf w arguments fuel N τ (length ws₂) → ws₃ ≡ leftBy h ws₂
+      → AllThree w arguments fuel N τ ws ws₃ (record { sequential = s; parallel = p; heartbeat = h })
+  all-three es e₁ ep e₂ eh e₃ =
+      let l₁ : length ws₁ ≡ length ws = ap length e₁ ∙ left-length s ws in
+      let l₂ : length ws₂ ≡ length ws = ap length e₂ ∙ left-length p ws₁ ∙ l₁ in
+      let fp : p ≡ parallelOf w arguments fuel N τ (length ws) = ep ∙ ap (λ (n : ℕ). parallelOf w arguments fuel N τ n) l₁ in
+      let fh : h ≡ heartbeatOf w arguments fuel N τ (length ws) = eh ∙ ap (λ (n : ℕ). heartbeatOf w arguments fuel N τ n) l₂ in
+      let c = checkedOf w (length arguments) fuel N τ (length ws) in
+      let a₁ : leftBy s ws ≡ leftAfter c ws = ap (λ (a : Answer). leftBy a ws) es ∙ left-answer sequential w arguments fuel N τ (length ws) ws in
+      let b₁ : ws₁ ≡ leftAfter c ws = e₁ ∙ a₁ in
+      let b₂ : ws₂ ≡ leftAfter c ws = e₂ ∙ ap (λ (a : Answer). leftBy a ws₁) fp ∙ left-answer parallel w arguments fuel N τ (length ws) ws₁ ∙ ap (leftAfter c) b₁ ∙ left-again c ws in
+      let b₃ : ws₃ ≡ leftAfter c ws = e₃ ∙ ap (λ (a : Answer). leftBy a ws₂) fh ∙ left-answer (heartbeat N) w arguments fuel N τ (length ws) ws₂ ∙ ap (leftAfter c) b₂ ∙ left-again c ws in
+      record {
+        sequential = es;
+        parallel = fp;
+        heartbeat = fh;
+        workspace = b₃ ∙ sym a₁;
+        demand-3 = claim-of w arguments fuel N τ (length ws) s p h es fp fh;
+      }

@@ -1,0 +1,18 @@
+-- `machine::heartbeat` meets its contract: the flags are the heartbeat's, with its own N. Assumes nothing.
+use Rattle.schedule.specs.Machine.{heartbeat}
+use Rattle.machine.proofs.Machines.{heartbeat-suits}
+use borrow.Author.Needs.{needs}
+use Rattle.machine.proofs.heartbeat.Statement.{statement}
+use Rattle.machine.proofs.heartbeat.Tie as tie
+
+machine-requires : tie.Need-machine-requires
+machine-requires c κs = search needs
+
+same-length : tie.Need-same-length
+same-length c = search needs
+
+returns : tie.Need-returns
+returns c = (c .before .before .machine .ensures .0 (heartbeat (c .before .before .before .before .before .before .before .args .period)) (heartbeat-suits _ _), c .before .before .machine .ensures .1)
+
+pub heartbeat-spec : {M : Type 1} → statement M
+heartbeat-spec = tie.close (tie.spec machine-requires same-length returns)

@@ -1,0 +1,41 @@
+-- `machine::machine` meets its contract: the check's answer decides between the run and the refusal (proofs/Machines.antt). Assumes nothing.
+use mathlib.Core.Path.{refl, sym, _∙_}
+use Rattle.machine.specs.Workspace.{leftBy}
+use Rattle.machine.proofs.Machines.{settled, tells-run, tells-refusal}
+use borrow.Author.Needs.{needs}
+use Rattle.machine.proofs.machine.Statement.{statement}
+use Rattle.machine.proofs.machine.Tie as tie
+
+checked-requires : tie.Need-checked-requires
+checked-requires c κs = search needs
+
+enum-told : tie.Need-enum-told
+enum-told c = search needs
+
+launch-requires : tie.Need-launch-requires
+launch-requires c κs = let a = c .before .before .before .before .checked .ensures .1 .0 (c .before .enum-told .given .1) in record { table = a .table; count = a .arguments; set = settled (c .before .before .before .before .before .before .before .before .args .words .now) _ _ _ _ a }
+
+enum-known-read : tie.Need-enum-known-read
+enum-known-read c = search needs
+
+same-length : tie.Need-same-length
+same-length c = search needs
+
+returns : tie.Need-returns
+returns c = (tells-run (c .before .before .before .before .before .before .before .before .before .before .before .args .words .now) (c .before .before .before .before .before .before .before .before .before .before .before .args .arguments .now) _ _ _ _ (sym (c .before .before .before .before .before .before .before .checked .ensures .0) ∙ c .before .before .before .before .enum-told .given .1) (c .before .before .before .before .before .before .before .checked .ensures .1 .0 (c .before .before .before .before .enum-told .given .1)) (c .before .before .launch .ensures .0), c .before .before .launch .ensures .1)
+
+returns-2 : tie.Need-returns-2
+unfolding leftBy
+returns-2 c = (tells-refusal (c .before .before .before .before .before .before .before .before .args .words .now) (c .before .before .before .before .before .before .before .before .args .arguments .now) _ _ _ _ _ _ _ (sym (c .before .before .before .before .checked .ensures .0) ∙ c .before .read .given .1), refl)
+
+pub machine-spec : {M : Type 1} → statement M
+machine-spec =
+    tie.close
+    (tie.spec
+    checked-requires
+    enum-told
+    launch-requires
+    enum-known-read
+    same-length
+    returns
+    returns-2)

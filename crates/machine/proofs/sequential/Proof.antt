@@ -1,0 +1,18 @@
+-- `machine::sequential` meets its contract: the flags are the sequential schedule's. Assumes nothing.
+use Rattle.schedule.specs.Machine.{sequential}
+use Rattle.machine.proofs.Machines.{sequential-suits}
+use borrow.Author.Needs.{needs}
+use Rattle.machine.proofs.sequential.Statement.{statement}
+use Rattle.machine.proofs.sequential.Tie as tie
+
+machine-requires : tie.Need-machine-requires
+machine-requires c κs = search needs
+
+same-length : tie.Need-same-length
+same-length c = search needs
+
+returns : tie.Need-returns
+returns c = (c .before .before .machine .ensures .0 sequential (sequential-suits _), c .before .before .machine .ensures .1)
+
+pub sequential-spec : {M : Type 1} → statement M
+sequential-spec = tie.close (tie.spec machine-requires same-length returns)

@@ -1,0 +1,49 @@
+-- `machine::tell` meets its contract: by the step's case, as `toldOf` has it. Assumes nothing.
+use Rattle.machine.specs.Runs.{toldOf}
+use borrow.Author.Needs.{needs}
+use Rattle.machine.proofs.tell.Statement.{statement}
+use Rattle.machine.proofs.tell.Tie as tie
+
+enum-known-step : tie.Need-enum-known-step
+enum-known-step c = search needs
+
+count-requires : tie.Need-count-requires
+count-requires c κs = search needs
+
+enum-known-step-2 : tie.Need-enum-known-step-2
+enum-known-step-2 c = search needs
+
+stop-requires : tie.Need-stop-requires
+stop-requires c κs = search needs
+
+enum-told : tie.Need-enum-told
+enum-told c = search needs
+
+stop-requires-2 : tie.Need-stop-requires-2
+stop-requires-2 c κs = search needs
+
+returns : tie.Need-returns
+unfolding toldOf
+returns c = rw (c .before .before .step .given .1, c .count .ensures)
+
+returns-2 : tie.Need-returns-2
+unfolding toldOf
+returns-2 c = rw (c .before .before .step2 .given .1, c .stop .ensures)
+
+returns-3 : tie.Need-returns-3
+unfolding toldOf
+returns-3 c = rw (c .before .enum-told .given .1, c .stop2 .ensures)
+
+pub tell-spec : {M : Type 1} → statement M
+tell-spec =
+    tie.close
+    (tie.spec
+    enum-known-step
+    count-requires
+    enum-known-step-2
+    stop-requires
+    enum-told
+    stop-requires-2
+    returns
+    returns-2
+    returns-3)

@@ -1,0 +1,18 @@
+-- What the call of all three machines on one workspace tells, for any input: each answer by its definition, the workspace at the end, and
+-- demand 3 of these three answers, with the N and τ of the call.
+use Prim.Native.Nat.{ℕ}
+use mathlib.Core.Path.{_≡_}
+use mathlib.Core.List.{List}
+use lib.ListN.{length}
+use Rattle.language.specs.Answers.{sequentialOf, parallelOf, heartbeatOf}
+use Rattle.language.specs.Claim.{DemandThree}
+use Rattle.machine.specs.declared.Answers.{Answers}
+use Rattle.machine.specs.Workspace.{leftBy}
+
+-- `ws` are the workspace's words at the call and `ws′` those at its end
+pub record AllThree (w arguments : List ℕ) (fuel N τ : ℕ) (ws ws′ : List ℕ) (r : Answers) : Type 0 where
+  pub sequential : r .sequential ≡ sequentialOf w arguments fuel N τ (length ws)
+  pub parallel : r .parallel ≡ parallelOf w arguments fuel N τ (length ws)
+  pub heartbeat : r .heartbeat ≡ heartbeatOf w arguments fuel N τ (length ws)
+  pub workspace : ws′ ≡ leftBy (r .sequential) ws
+  pub demand-3 : DemandThree N τ (r .sequential) (r .parallel) (r .heartbeat)
