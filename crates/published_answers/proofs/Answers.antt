@@ -1,0 +1,115 @@
+-- The answers of the three machines are those of the published judgments: adequacy (crate `published`), carried through the check and through what a
+-- run tells.
+use Prim.Native.Nat.{ℕ}
+use mathlib.Core.Path.{_≡_, refl, ap, sym, _∙_}
+use mathlib.Core.List.{List}
+use native.Mathlib.Omega.{arith}
+use lib.ListN.{length}
+use Rattle.table.specs.declared.Reading.{Reading}
+use Rattle.table.specs.declared.Reading.the-variants as reading
+use Rattle.schedule.specs.Graph.{Graph, work, span}
+use Rattle.schedule.specs.Algebra.{graphs}
+use Rattle.schedule.specs.Machine as machine
+use Rattle.schedule.specs.Machine.{value, stop, Result, ended, ongoing, Schedule, sequential, parallel, heartbeat}
+use Rattle.schedule.specs.Runs.{outcome}
+use Rattle.language.specs.declared.Counts.{Counts}
+use Rattle.language.specs.declared.Stop.{Stop}
+use Rattle.language.specs.declared.Answer.{Answer}
+use Rattle.language.specs.declared.Answer.the-variants.{Value, Stopped, Refused}
+use Rattle.language.specs.Language.{language}
+use Rattle.language.specs.Checks.{framesIn, checkedOf}
+use Rattle.language.specs.Answers.{entry, countsOf, toldBy, afterCheck, runOf, answerOf}
+use Rattle.published.specs.CostGraph.{work-of, span-of, fork-count, flat}
+use Rattle.published.specs.Adequacy.{Judgment, Reaches, Told}
+use Rattle.published.proofs.CostGraph.{work-flat, span-flat}
+use Rattle.published.proofs.Adequacy.{adequate, stop-reaches-none}
+use Rattle.published_answers.specs.Answers.{judged, Counted, Published, DemandTwo}
+
+-- The counts of an answer that has a value.
+counts-of : Counts → Answer → Counts
+counts-of other (Value v a) = a
+counts-of other (Stopped s) = other
+counts-of other (Refused r) = other
+
+module _ (m : Schedule) (w arguments : List ℕ) (fuel τ workspace : ℕ) where
+  abbrev J : Judgment
+  J = judged m w arguments
+
+  abbrev ran : Result graphs (language w)
+  ran = outcome graphs (language w) fuel (framesIn workspace) m (entry arguments)
+
+  counted : {v : ℕ} {g : Graph} {t : machine.Counts} {k : Counts} → Told J fuel (framesIn workspace) v g t
+      → countsOf (t .transitions) (t .forks) (work τ g) (span τ g) ≡ k → Counted J fuel (framesIn workspace) τ v k
+  counted {g = g} {t = t} d e =
+      let c = d .reaches .graph in
+      let paid : work τ g ≡ work-of τ c = ap (work τ) (d .graph-is) ∙ work-flat τ c in
+      let long : span τ g ≡ span-of τ c = ap (span τ) (d .graph-is) ∙ span-flat τ c in
+      record { reaches = d .reaches; counts-are = sym e ∙ rw (d .transitions-are, d .forks-are, paid, long) }
+
+  from-run : (v : ℕ) (k : Counts) (o : Result graphs (language w)) → ran ≡ o → toldBy τ o ≡ Value v k
+      → Counted J fuel (framesIn workspace) τ v k
+  unfolding toldBy counts-of
+  from-run v k (ended (value u) g t) e q =
+      let same : u ≡ v = cc in
+      counted (adequate (language w) fuel (framesIn workspace) m (entry arguments) v g t .0 (e ∙ ap (λ x. ended (value x) g t) same))
+      (ap (counts-of k) q)
+  from-run v k (ended (stop i p) g t) e q = let no : _≡_ {A = ℕ} 0 1 = cc in absurd (omega arith)
+  from-run v k (ongoing s) e q = let no : _≡_ {A = ℕ} 0 1 = cc in absurd (omega arith)
+
+  to-run : (v : ℕ) (k : Counts) → Counted J fuel (framesIn workspace) τ v k → toldBy τ ran ≡ Value v k
+  unfolding toldBy
+  to-run v k c =
+      let g = c .reaches .graph in
+      let t : machine.Counts = record
+      { transitions = J .transitions (c .reaches .derivation); forks = fork-count g; deepest = J .frames (c .reaches .derivation) } in
+      let e = adequate (language w) fuel (framesIn workspace) m (entry arguments) v (flat g) t .1
+      (record { reaches = c .reaches; graph-is = refl; transitions-are = refl; forks-are = refl; deepest-is = refl }) in
+      ap (toldBy τ) e ∙ rw (work-flat τ g, span-flat τ g, c .counts-are)
+
+  none-reached : (s : Stop) (o : Result graphs (language w)) → ran ≡ o → toldBy τ o ≡ Stopped s → (v : ℕ)
+      → Reaches J fuel (framesIn workspace) v → ⊥
+  unfolding toldBy
+  none-reached s (ended (value u) g t) e q v r = let no : _≡_ {A = ℕ} 0 1 = cc in omega arith
+  none-reached s (ended (stop i p) g t) e q v r = stop-reaches-none (language w) fuel (framesIn workspace) m (entry arguments) i p g t e v r
+  none-reached s (ongoing u) e q v r =
+      let a = adequate (language w) fuel (framesIn workspace) m (entry arguments) v (flat (r .graph)) _ .1
+      (record { reaches = r; graph-is = refl; transitions-are = refl; forks-are = refl; deepest-is = refl }) in
+      let no : _≡_ {A = ℕ} 0 1 = cc in
+      omega arith
+
+module _ (m : Schedule) (w arguments : List ℕ) (fuel N τ workspace : ℕ) where
+  abbrev ran-by : Answer
+  ran-by = runOf m w arguments fuel τ workspace
+
+  from-check : (v : ℕ) (k : Counts) (r : Reading) → checkedOf w (length arguments) fuel N τ workspace ≡ r → afterCheck r ran-by ≡ Value v k
+      → (checkedOf w (length arguments) fuel N τ workspace ≡ reading.Accepted) × Counted (judged m w arguments) fuel (framesIn workspace) τ
+      v k
+  unfolding afterCheck runOf
+  from-check v k reading.Accepted e q = (e, from-run m w arguments fuel τ workspace v k _ refl q)
+  from-check v k (reading.Refused r) e q = let no : _≡_ {A = ℕ} 0 1 = cc in absurd (omega arith)
+
+  none-checked : (s : Stop) (r : Reading) → checkedOf w (length arguments) fuel N τ workspace ≡ r → afterCheck r ran-by ≡ Stopped s
+      → (v : ℕ)
+      → Reaches (judged m w arguments) fuel (framesIn workspace) v → ⊥
+  unfolding afterCheck runOf
+  none-checked s reading.Accepted e q = none-reached m w arguments fuel τ workspace s _ refl q
+  none-checked s (reading.Refused r) e q = λ v d. let no : _≡_ {A = ℕ} 0 1 = cc in omega arith
+
+  pub by-schedule : Published m w arguments fuel N τ workspace (answerOf m w arguments fuel N τ workspace)
+  unfolding answerOf afterCheck runOf
+  by-schedule = record {
+    value-iff = λ v k. (λ e. from-check v k _ refl e, λ c. rw (c .0) (to-run m w arguments fuel τ workspace v k (c .1)));
+    stop-none = λ s e. none-checked s _ refl e;
+  }
+
+pub demand-2 : DemandTwo
+demand-2 w arguments fuel N τ workspace = record {
+  figure-4 = by-schedule sequential w arguments fuel N τ workspace;
+  figure-5 = by-schedule parallel w arguments fuel N τ workspace;
+  figure-6 = by-schedule (heartbeat N) w arguments fuel N τ workspace;
+}
+
+-- And so of any answer that a machine promises.
+pub published-of : (m : Schedule) (w arguments : List ℕ) (fuel N τ workspace : ℕ) (r : Answer) → r ≡ answerOf m w arguments fuel N τ workspace
+    → Published m w arguments fuel N τ workspace r
+published-of m w arguments fuel N τ workspace r e = rw e (by-schedule m w arguments fuel N τ workspace)

@@ -1,0 +1,3 @@
+-- The proof of what specs/ states.
+pub mod Answers
+mod Example

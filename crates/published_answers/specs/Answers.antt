@@ -1,0 +1,46 @@
+-- DEMAND 2, as a reader of document 004 can check it. Each machine answers a value iff it accepts its input and the figure's judgment derives that
+-- value within the fuel and the frames of the workspace; the counts in the answer are those of the derivation and of its cost graph; and where it
+-- answers a stop, the judgment derives nothing within them. The judgments are in crate `published`, specs/Judgments.antt, rule by rule.
+use Prim.Native.Nat.{ℕ}
+use mathlib.Core.Path.{_≡_}
+use mathlib.Core.List.{List}
+use mathlib.Core.Logic.{_↔_}
+use lib.ListN.{length}
+use Rattle.table.specs.declared.Reading.the-variants as reading
+use Rattle.schedule.specs.Machine.{Schedule, sequential, parallel, heartbeat}
+use Rattle.language.specs.declared.Counts.{Counts}
+use Rattle.language.specs.declared.Stop.{Stop}
+use Rattle.language.specs.declared.Answer.{Answer}
+use Rattle.language.specs.declared.Answer.the-variants.{Value, Stopped}
+use Rattle.language.specs.Language.{language}
+use Rattle.language.specs.Checks.{framesIn, checkedOf}
+use Rattle.language.specs.Answers.{entry, countsOf, sequentialOf, parallelOf, heartbeatOf}
+use Rattle.published.specs.CostGraph.{work-of, span-of, fork-count}
+use Rattle.published.specs.Adequacy.{Judgment, published, Reaches}
+
+-- The judgment of a schedule at a table's entry: Figure 4, 5 or 6.
+abbrev pub judged : Schedule → List ℕ → List ℕ → Judgment
+judged m w arguments = published (language w) m (entry arguments)
+
+-- v is derived within the limits, and k counts that derivation: its transitions, and the forks, work and span of its graph (Figure 1).
+pub record Counted (J : Judgment) (fuel frames τ v : ℕ) (k : Counts) : Type 0 where
+  pub reaches : Reaches J fuel frames v
+  pub counts-are : k ≡ countsOf (J .transitions (reaches .derivation)) (fork-count (reaches .graph)) (work-of τ (reaches .graph))
+      (span-of τ (reaches .graph))
+
+-- An answer r is that of a schedule's judgment.
+pub record Published (m : Schedule) (w arguments : List ℕ) (fuel N τ workspace : ℕ) (r : Answer) : Type 0 where
+  pub value-iff : (v : ℕ) (k : Counts) → (r ≡ Value v k)
+      ↔ ((checkedOf w (length arguments) fuel N τ workspace ≡ reading.Accepted)
+      × Counted (judged m w arguments) fuel (framesIn workspace) τ v k)
+  pub stop-none : (s : Stop) → r ≡ Stopped s → (v : ℕ) → Reaches (judged m w arguments) fuel (framesIn workspace) v → ⊥
+
+pub record AllPublished (w arguments : List ℕ) (fuel N τ workspace : ℕ) : Type 0 where
+  pub figure-4 : Published sequential w arguments fuel N τ workspace (sequentialOf w arguments fuel N τ workspace)
+  pub figure-5 : Published parallel w arguments fuel N τ workspace (parallelOf w arguments fuel N τ workspace)
+  pub figure-6 : Published (heartbeat N) w arguments fuel N τ workspace (heartbeatOf w arguments fuel N τ workspace)
+
+-- THEOREM (proofs/Answers.antt, `demand-2`), for every table, arguments, fuel, N, τ and length of the workspace. Crate `machine` promises that its
+-- three functions answer `sequentialOf`, `parallelOf` and `heartbeatOf`.
+abbrev pub DemandTwo : Type 0
+DemandTwo = (w arguments : List ℕ) (fuel N τ workspace : ℕ) → AllPublished w arguments fuel N τ workspace
