@@ -1,0 +1,3 @@
+-- What a caller from another language must believe: the eight words that tell an answer, and what a call leaves in the lent buffers.
+pub mod Words
+pub mod Calls

@@ -1,0 +1,50 @@
+/* Three cost machines for fork-join jobs: the C interface.
+ *
+ * Link with libcapi.a, which `rt staticlib capi` writes to target/staticlib/. What is said here is proved of the library
+ * (crates/capi/src/lib.rt and crates/capi/specs/) for every input; document 01 tells what a job table is and what a machine answers.
+ */
+#ifndef MONDUPIL_H
+#define MONDUPIL_H
+
+#include <stddef.h>
+#include <stdint.h>
+
+#ifdef __cplusplus
+extern "C" {
+#endif
+
+/* The machines. */
+enum { MONDUPIL_SEQUENTIAL = 0, MONDUPIL_PARALLEL = 1, MONDUPIL_HEARTBEAT = 2 };
+
+/* The kinds of answer. */
+enum { MONDUPIL_VALUE = 0, MONDUPIL_STOP = 1, MONDUPIL_REFUSAL = 2 };
+
+/* The places of the eight words of an answer. MONDUPIL_TOLD is the value, or the number of the stop or of the refusal. Words that an
+ * answer does not have are 0: a value has no function and no node, a stop no forks, work and span, a refusal none after its node. */
+enum {
+    MONDUPIL_KIND, MONDUPIL_TOLD, MONDUPIL_FUNCTION, MONDUPIL_NODE,
+    MONDUPIL_TRANSITIONS, MONDUPIL_FORKS, MONDUPIL_WORK, MONDUPIL_SPAN,
+    MONDUPIL_WORDS
+};
+
+/* Runs one machine on a job table with arguments. `period` is N and `tau` the price of a fork.
+ *
+ * Returns 0, and the first eight words of `answer` are the machine's answer; words after the eighth stay. After a value or a stop every
+ * word of the workspace is 0; after a refusal the workspace is as it was. For an unknown machine, or fewer than eight answer words, it
+ * returns 1 and changes nothing.
+ *
+ * Every input is allowed: what is out of range is refused by number (1 to 11). What the caller must see to is C's own: each pointer is
+ * not null, even where its length is 0, is aligned and has so many words behind it, and `workspace` and `answer` overlap nothing else.
+ * A workspace has 32 words for each frame, and 1 to 4,096 frames. */
+uint32_t mondupil_run(uint32_t machine,
+                      const uint32_t *table, size_t table_len,
+                      const uint64_t *args, size_t args_len,
+                      uint64_t fuel, uint64_t period, uint64_t tau,
+                      uint64_t *workspace, size_t workspace_len,
+                      uint64_t *answer, size_t answer_len);
+
+#ifdef __cplusplus
+}
+#endif
+
+#endif

@@ -1,0 +1,81 @@
+//! Document 01's settled runs, starred or not, as rows:
+//! (name, machines, table, fuel, N, tau, frames, the eight words wanted; None = not told).
+use crate::second::Machine::{self, *};
+
+pub struct Row {
+    pub name: &'static str,
+    pub machine: Machine,
+    pub table: Vec<u32>,
+    pub fuel: u64,
+    pub period: u64,
+    pub tau: u64,
+    pub frames: usize,
+    pub wanted: [Option<u64>; 8],
+}
+
+pub const A: [u32; 31] = [
+    1, 0, 7, 6, 0, 5, 6, 6, 0, 3, 4, 0, 3, 0, 0, 0, 4, 0, 0, 1, 1, 0, 0, 0, 5, 0, 0, 1, 0, 0, 0,
+];
+
+fn value(v: u64, forks: Option<u64>, work: Option<u64>, span: Option<u64>) -> [Option<u64>; 8] {
+    [Some(0), Some(v), Some(0), Some(0), None, forks, work, span]
+}
+fn stop(n: u64, node: u64, made: Option<u64>) -> [Option<u64>; 8] {
+    [Some(1), Some(n), Some(0), Some(node), made, Some(0), Some(0), Some(0)]
+}
+fn refused(n: u64) -> [Option<u64>; 8] {
+    let z = Some(0);
+    [Some(2), Some(n), z, z, z, z, z, z]
+}
+fn binary(op: u32, x: (u32, u32), y: (u32, u32)) -> Vec<u32> {
+    vec![1, 0, 3, 2, op, 2, 0, 0, x.0, x.1, 0, 0, y.0, y.1, 0]
+}
+
+pub fn rows() -> Vec<Row> {
+    let mut all = Vec::new();
+    let mut row = |name, machines: &[Machine], table: &[u32], fuel, period, tau, frames, wanted| {
+        for &machine in machines {
+            all.push(Row { name, machine, table: table.to_vec(), fuel, period, tau, frames, wanted });
+        }
+    };
+    let s = Some;
+    let every = &[Sequential, Parallel, Heartbeat][..];
+    row("A sequential", &[Sequential], &A, 100, 3, 2, 256, value(4, s(0), s(11), s(11)));
+    row("A parallel", &[Parallel], &A, 100, 3, 2, 256, value(4, s(2), s(9), s(7)));
+    row("A heartbeat", &[Heartbeat], &A, 100, 3, 2, 256, value(4, s(1), s(11), s(10)));
+    row("A heartbeat N 1 tau 1", &[Heartbeat], &A, 100, 1, 1, 256, value(4, s(2), s(9), s(7)));
+    row("A heartbeat N 10000", &[Heartbeat], &A, 100, 10_000, 2, 256, value(4, s(0), s(11), s(11)));
+    row("A fuel 11", &[Sequential], &A, 11, 3, 2, 256, value(4, s(0), s(11), s(11)));
+    row("A fuel 10", &[Sequential], &A, 10, 3, 2, 256, stop(20, 6, s(10)));
+    row("A parallel fuel 4", &[Parallel], &A, 4, 3, 2, 256, stop(20, 6, s(4)));
+    row("A parallel fuel 5", &[Parallel], &A, 5, 3, 2, 256, value(4, s(2), s(9), s(7)));
+    row("A one frame", &[Sequential, Heartbeat], &A, 100, 3, 2, 1, stop(21, 1, s(1)));
+    row("A one frame parallel", &[Parallel], &A, 100, 3, 2, 1, stop(21, 1, s(0)));
+    row("70000 squared", every, &binary(2, (70000, 0), (70000, 0)), 100, 3, 2, 256, value(4_900_000_000, s(0), s(5), None));
+    row("2^32 squared", every, &binary(2, (0, 1), (0, 1)), 100, 3, 2, 256, stop(22, 0, s(4)));
+    row("2^32 squared fuel 4", every, &binary(2, (0, 1), (0, 1)), 4, 3, 2, 256, stop(20, 0, s(4)));
+    let looping = [1, 0, 1, 5, 0, 0, 0];
+    row("loop", every, &looping, 100, 3, 2, 256, stop(20, 0, s(100)));
+    row("loop fuel 1", every, &looping, 1, 3, 2, 256, stop(20, 0, s(1)));
+    row("loop long", every, &looping, 1_000_000, 3, 2, 256, stop(20, 0, s(1_000_000)));
+    row("0 - 1", every, &binary(1, (0, 0), (1, 0)), 100, 3, 2, 256, stop(23, 0, s(4)));
+    row("7 / 0", every, &binary(3, (7, 0), (0, 0)), 100, 3, 2, 256, stop(24, 0, s(4)));
+    row("7 % 0", every, &binary(4, (7, 0), (0, 0)), 100, 3, 2, 256, stop(24, 0, s(4)));
+    row("no words", every, &[], 100, 3, 2, 256, refused(1));
+    let mut wide = vec![65u32];
+    for _ in 0..65 {
+        wide.extend_from_slice(&[0, 1]);
+    }
+    for _ in 0..65 {
+        wide.extend_from_slice(&[0, 1, 0, 0]);
+    }
+    row("F 65", every, &wide, 100, 3, 2, 256, refused(1));
+    row("N 10000 passes", every, &binary(0, (1, 0), (2, 0)), 100, 10_000, 2, 256, value(3, s(0), s(5), s(5)));
+    row("N 0", every, &A, 100, 0, 2, 256, refused(9));
+    row("N 10001", every, &A, 100, 10_001, 2, 256, refused(9));
+    all
+}
+
+pub fn meets(got: [u64; 8], wanted: [Option<u64>; 8]) -> bool {
+    got.iter().zip(wanted.iter()).all(|(g, w)| w.map_or(true, |w| w == *g))
+}
