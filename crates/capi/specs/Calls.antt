@@ -14,7 +14,7 @@ use Rattle.capi.specs.Words.{wordsOf, written}
 unfoldable pub answerBy : ℕ → List ℕ → List ℕ → ℕ → ℕ → ℕ → ℕ → Answer
 answerBy machine w arguments fuel N τ workspace =
     cond (eqb machine 0) (sequentialOf w arguments fuel N τ workspace)
-      (cond (eqb machine 1) (parallelOf w arguments fuel N τ workspace) (heartbeatOf w arguments fuel N τ workspace))
+    (cond (eqb machine 1) (parallelOf w arguments fuel N τ workspace) (heartbeatOf w arguments fuel N τ workspace))
 
 -- is this machine one of the three, and is there room for eight words in a buffer of so many?
 unfoldable pub served : ℕ → ℕ → Bool

@@ -1,0 +1,136 @@
+-- What the functions that tell a report have to show.
+--     unrefused, no-value     the lines where the first machine is not refused, and where the parallel one has no value
+--     Complete, has, lacks    an input's words, by the test of them
+--     turned-away, told       the report on words that are no job, and on a job
+--     cramped                 a buffer without room for a report
+--     no-words, by-words      the report on bytes that are no words, and on bytes that are
+--     too-long, ragged, all-words   which bytes are words
+-- Assumes nothing.
+use mathlib.Core.Path.{_≡_, refl, sym, ap, subst, _∙_}
+use Prim.Native.Nat.{ℕ, _+_, _-_, _*_, _%_, _≤_, _<_}
+use mathlib.Core.Bool.{Bool, true, false, not, cond, _&&_}
+use mathlib.Core.List.{List, _++_}
+use native.Mathlib.Omega.{arith}
+use lib.ListN.{length, take, drop, length-drop}
+use lib.Seq.{paste, take-at, take-all, length-take-le}
+use lib.Dec.{leb}
+use borrow.Author.Tests.{leb-true, not-true, not-false, le-leb, lt-leb, eq-eqb, ne-eqb}
+use Rattle.table.specs.declared.Refusal.{Refusal}
+use Rattle.schedule.proofs.Moves.{and-true}
+use Rattle.io.specs.Counts.{Counts as Within}
+use Rattle.language.specs.declared.Counts.{Counts}
+use Rattle.language.specs.declared.Answer.{Answer}
+use Rattle.language.specs.declared.Answer.the-variants.{Value, Stopped, Refused}
+use Rattle.language.specs.Answers.{sequentialOf, parallelOf, heartbeatOf}
+use Rattle.language.proofs.Claim.{claim}
+use Rattle.machine.specs.declared.Answers.{Answers}
+use Rattle.machine.specs.AllThree.{AllThree}
+use Rattle.report.specs.Input.{countOf, wordsOf, jobOf, complete, whole}
+use Rattle.report.specs.Lines.{ascii, breadthLine, machineLines, reportLines}
+use Rattle.report.specs.Buffer.{Wrote}
+use Rattle.report.specs.Report.{noJob, DemandThreeOf, toldOf, wordsReport, wordsLeave, reportOf, leftAfter, WordsReported, Reported}
+use Rattle.report.proofs.Buffer.{same}
+
+-- where the first machine does not refuse, its line is told with the others
+pub unrefused : (s p h : Answer) → ((r : Refusal) → s ≡ Refused r → ⊥) → machineLines s p h ≡ reportLines s p h
+unfolding reportLines
+unrefused (Value v counts) p h not = refl
+unrefused (Stopped s) p h not = refl
+unrefused (Refused r) p h not = absurd (not r refl)
+
+-- where there is no value, there is no breadth
+pub no-value : (p : Answer) → ((v : ℕ) (counts : Counts) → p ≡ Value v counts → ⊥) → ascii "breadth none\n" ≡ breadthLine p
+unfolding breadthLine
+no-value (Value v counts) not = absurd (not v counts refl)
+no-value (Stopped s) not = refl
+no-value (Refused r) not = refl
+
+-- what a complete input has
+pub record Complete (w : List ℕ) : Type 0 where
+  pub four : 4 ≤ length w
+  pub few : countOf w ≤ 3
+  pub room : 4 + 2 * countOf w ≤ length w
+
+parts : (w : List ℕ) → complete w ≡ true → Complete w
+unfolding complete
+parts w h =
+    let a = and-true (leb 4 (length w)) (leb (countOf w) 3 && leb (4 + 2 * countOf w) (length w)) h in
+    let b = and-true (leb (countOf w) 3) (leb (4 + 2 * countOf w) (length w)) (a .1) in
+    record { four = leb-true _ _ (a .0); few = leb-true _ _ (b .0); room = leb-true _ _ (b .1) }
+
+module _ (w : List ℕ) (answer : Bool) (is : answer ≡ complete w) where
+  pub lacks : not answer ≡ true → complete w ≡ false
+  lacks h = sym is ∙ not-true answer h
+
+  pub passes : not answer ≡ false → complete w ≡ true
+  passes h = sym is ∙ not-false answer h
+
+  pub has : not answer ≡ false → Complete w
+  has h = parts w (passes h)
+
+-- a copy to the front, taken back
+pub front-of : (d s : List ℕ) (n : ℕ) → length s ≡ n → take n (paste d 0 s n) ≡ s
+front-of d s n h =
+    take-at (take n s) (drop (0 + n) d) n (length-take-le n s (omega (arith, h))) ∙ take-all n s (omega (arith, h))
+
+pub from-on : (w : List ℕ) (from : ℕ) → take (length w - from) (drop from w) ≡ drop from w
+from-on w from = take-all (length w - from) (drop from w) (simp length-drop (omega arith))
+
+module _ (w ws out out′ : List ℕ) (r : ℕ) where
+  pub turned-away : complete w ≡ false → Wrote out 0 noJob out′ r → WordsReported w ws out ws out′ r
+  unfolding wordsReport wordsLeave
+  turned-away h wrote = record { wrote = rw h wrote; workspace = rw h }
+
+  pub told : (ws′ : List ℕ) (answers : Answers) (table arguments : List ℕ) (fuel N τ : ℕ) → complete w ≡ true
+      → table ≡ jobOf w .table → arguments ≡ jobOf w .arguments → fuel ≡ jobOf w .fuel → N ≡ jobOf w .period → τ ≡ jobOf w .tau
+      → AllThree table arguments fuel N τ ws ws′ answers
+      → Wrote out 0 (reportLines (answers .sequential) (answers .parallel) (answers .heartbeat)) out′ r → WordsReported w ws out ws′ out′ r
+  unfolding wordsReport wordsLeave toldOf
+  told ws′ answers table arguments fuel N τ h et ea ef en ep a wrote = record {
+    wrote = rw (h, ← et, ← ea, ← ef, ← en, ← ep, ← a .sequential, ← a .parallel, ← a .heartbeat) wrote;
+    workspace = rw (h, ← et, ← ea, ← ef, ← en, ← ep, ← a .sequential) (a .workspace);
+  }
+
+module _ (bytes ws out : List ℕ) where
+  every : DemandThreeOf (jobOf (wordsOf bytes)) (length ws)
+  every = claim _ _ _ _ _ _
+
+  pub cramped : length out < 512 → Reported bytes ws out ws out 0 × Within 0 out
+  cramped h = (record { number = rw (lt-leb 512 (length out) h); written = rw (lt-leb 512 (length out) h); workspace = rw (lt-leb 512 (length out) h); demand-3 = every }, (omega arith, refl))
+
+  pub reported : (ws′ out′ : List ℕ) (r : ℕ) (text : List ℕ) → 512 ≤ length out → text ≡ reportOf bytes (length ws) → ws′ ≡ leftAfter bytes ws
+      → Wrote out 0 text out′ r → Reported bytes ws out ws′ out′ r × Within r out′
+  reported ws′ out′ r text h is left wrote =
+      let end : r ≡ length text = omega (arith, wrote .ends) in
+      let room : r ≤ length out′ = omega (arith, wrote .fits, same wrote) in (
+        record {
+          number = rw (le-leb 512 (length out) h, ← is) end;
+          written = rw (le-leb 512 (length out) h, ← is, ← end) (wrote .content);
+          workspace = rw (le-leb 512 (length out) h) left;
+          demand-3 = every;
+        },
+        (room, sym (length-take-le r out′ room)),
+      )
+
+  pub no-words : (out′ : List ℕ) (r : ℕ) → whole bytes ≡ false → 512 ≤ length out → Wrote out 0 noJob out′ r
+      → Reported bytes ws out ws out′ r × Within r out′
+  unfolding reportOf leftAfter
+  no-words out′ r w h wrote = reported ws out′ r noJob h (rw w) (rw w) wrote
+
+  pub by-words : (ws′ out′ : List ℕ) (r : ℕ) (words : List ℕ) → whole bytes ≡ true → 512 ≤ length out → words ≡ wordsOf bytes
+      → WordsReported words ws out ws′ out′ r → Reported bytes ws out ws′ out′ r × Within r out′
+  unfolding reportOf leftAfter
+  by-words ws′ out′ r words w h is g =
+      reported ws′ out′ r (wordsReport words (length ws)) h (rw (w, is)) (g .workspace ∙ rw (w, is)) (g .wrote)
+
+pub too-long : (bytes : List ℕ) → 65536 < length bytes → whole bytes ≡ false
+unfolding whole
+too-long bytes h = rw (lt-leb (length bytes) 65536 h)
+
+pub ragged : (bytes : List ℕ) → length bytes ≤ 65536 → (length bytes % 4 ≡ 0 → ⊥) → whole bytes ≡ false
+unfolding whole
+ragged bytes h g = rw (le-leb (length bytes) 65536 h, ne-eqb (length bytes % 4) 0 g)
+
+pub all-words : (bytes : List ℕ) → length bytes ≤ 65536 → length bytes % 4 ≡ 0 → whole bytes ≡ true
+unfolding whole
+all-words bytes h g = rw (le-leb (length bytes) 65536 h, eq-eqb (length bytes % 4) 0 g)

@@ -1,0 +1,62 @@
+-- What a call of the report writes and leaves, for any input, workspace and output buffer.
+use Prim.Native.Nat.{ℕ}
+use mathlib.Core.Path.{_≡_}
+use mathlib.Core.Bool.{cond}
+use mathlib.Core.List.{List, _++_}
+use lib.ListN.{length, drop}
+use lib.Dec.{leb}
+use Rattle.language.specs.declared.Answer.{Answer}
+use Rattle.language.specs.Answers.{Machine, sequentialOf, parallelOf, heartbeatOf}
+use Rattle.language.specs.Claim.{DemandThree}
+use Rattle.machine.specs.Workspace.{leftBy}
+use Rattle.report.specs.Input.{Job, wordsOf, jobOf, complete, whole}
+use Rattle.report.specs.Buffer.{Wrote}
+use Rattle.report.specs.Lines.{refusalLine, reportLines}
+
+-- a machine's answer to a job, with a workspace of so many words
+abbrev pub answerTo : Machine → Job → ℕ → Answer
+answerTo machine job workspace = machine (job .table) (job .arguments) (job .fuel) (job .period) (job .tau) workspace
+
+-- the three answers, told
+unfoldable pub toldOf : Job → ℕ → List ℕ
+toldOf job workspace =
+    reportLines (answerTo sequentialOf job workspace) (answerTo parallelOf job workspace) (answerTo heartbeatOf job workspace)
+
+-- `refused 1 function 0 node 0`
+abbrev pub noJob : List ℕ
+noJob = refusalLine (record { number = 1; function = 0; node = 0 })
+
+-- THE REPORT on an input's words, with a workspace of so many words
+unfoldable pub wordsReport : List ℕ → ℕ → List ℕ
+wordsReport w workspace = cond (complete w) (toldOf (jobOf w) workspace) noJob
+
+-- and on its bytes
+unfoldable pub reportOf : List ℕ → ℕ → List ℕ
+reportOf bytes workspace = cond (whole bytes) (wordsReport (wordsOf bytes) workspace) noJob
+
+-- the workspace's words at the end, by the words at the call: as the machines leave them, or as they were where none was called
+unfoldable pub wordsLeave : List ℕ → List ℕ → List ℕ
+wordsLeave w ws = cond (complete w) (leftBy (answerTo sequentialOf (jobOf w) (length ws)) ws) ws
+
+unfoldable pub leftAfter : List ℕ → List ℕ → List ℕ
+leftAfter bytes ws = cond (whole bytes) (wordsLeave (wordsOf bytes) ws) ws
+
+-- what is told of an input's words: the report, at the front of a buffer, and the workspace
+pub record WordsReported (w ws out ws′ out′ : List ℕ) (r : ℕ) : Type 0 where
+  pub wrote : Wrote out 0 (wordsReport w (length ws)) out′ r
+  pub workspace : ws′ ≡ wordsLeave w ws
+
+-- DEMAND 3 of the answers that a report tells, with N and τ after the defaults
+abbrev pub DemandThreeOf : Job → ℕ → Type 0
+DemandThreeOf job workspace =
+    DemandThree (job .period) (job .tau) (answerTo sequentialOf job workspace) (answerTo parallelOf job workspace)
+    (answerTo heartbeatOf job workspace)
+
+-- WHAT A CALL TELLS. `ws` and `out` are the words of the workspace and the bytes of the output buffer at the call, `ws′` and `out′` those
+-- at its end, and r is the number of bytes written: the report, at the front of the buffer. A buffer of fewer than 512 bytes, which may be
+-- too few for a report, gets none: nothing runs then, and nothing is changed.
+pub record Reported (bytes ws out ws′ out′ : List ℕ) (r : ℕ) : Type 0 where
+  pub number : r ≡ cond (leb 512 (length out)) (length (reportOf bytes (length ws))) 0
+  pub written : out′ ≡ cond (leb 512 (length out)) (reportOf bytes (length ws) ++ drop (length (reportOf bytes (length ws))) out) out
+  pub workspace : ws′ ≡ cond (leb 512 (length out)) (leftAfter bytes ws) ws
+  pub demand-3 : DemandThreeOf (jobOf (wordsOf bytes)) (length ws)
