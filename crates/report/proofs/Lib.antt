@@ -3,3 +3,4 @@ mod Buffer
 mod Digits
 mod Words
 mod Telling
+mod Examples

@@ -3,3 +3,4 @@ pub mod Input
 pub mod Lines
 pub mod Buffer
 pub mod Report
+pub mod Examples

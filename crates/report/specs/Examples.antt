@@ -1,0 +1,52 @@
+-- The report that document 01 prints, and further ones worked out by hand, as rows of one table. That each is what the definitions write is
+-- proved in proofs/Examples.antt, `written`.
+use Prim.Native.Nat.{ℕ, _/_, _%_}
+use Prim.Native.String.{String}
+use mathlib.Core.Path.{_≡_}
+use mathlib.Core.List.{List, [], _∷_, _++_}
+use Rattle.language.specs.Settled.{tableA}
+use Rattle.report.specs.Lines.{ascii}
+use Rattle.report.specs.Report.{reportOf}
+
+-- An input's bytes, and the report on it.
+pub record Row : Type 0 where
+  pub input : List ℕ
+  pub report : String
+
+-- "low byte first"
+unfoldable pub bytesOf : List ℕ → List ℕ
+bytesOf [] = []
+bytesOf (n ∷ w) = (n % 256) ∷ (n / 256 % 256) ∷ (n / 65536 % 256) ∷ (n / 16777216) ∷ bytesOf w
+
+-- fuel, N, τ and table A, with no arguments
+unfoldable pub onA : ℕ → ℕ → ℕ → List ℕ
+onA fuel N τ = bytesOf (fuel ∷ N ∷ τ ∷ 0 ∷ tableA)
+
+unfoldable pub rows : List Row
+rows =
+    -- 01: "The report on words 100, 3, 2, 0 and then A"
+    record { input = onA 100 3 2; report = "sequential value 4 work 11 span 11 forks 0\nparallel value 4 work 9 span 7 forks 2\nheartbeat value 4 work 11 span 10 forks 1\nbreadth 1\n" }
+    -- the house default for all three: no promotion in 1,000 transitions, and two forks at 50 each
+    ∷ record { input = onA 0 0 0; report = "sequential value 4 work 11 span 11 forks 0\nparallel value 4 work 105 span 103 forks 2\nheartbeat value 4 work 11 span 11 forks 0\nbreadth 1\n" }
+    -- 01's stop, as an example of its line; the others have fuel enough
+    ∷ record { input = onA 10 3 2; report = "sequential stop 20 function 0 node 6 transitions 10\nparallel value 4 work 9 span 7 forks 2\nheartbeat value 4 work 11 span 10 forks 1\nbreadth 1\n" }
+    -- "N not 1 to 10,000"
+    ∷ record { input = onA 100 10001 2; report = "refused 9 function 0 node 0\n" }
+    -- "too short for its first four words", "not whole words", "with more than 3 of them": refusal 1
+    ∷ record { input = []; report = "refused 1 function 0 node 0\n" }
+    ∷ record { input = onA 100 3 2 ++ (0 ∷ []); report = "refused 1 function 0 node 0\n" }
+    ∷ record { input = bytesOf (100 ∷ 3 ∷ 2 ∷ 4 ∷ tableA); report = "refused 1 function 0 node 0\n" }
+    ∷ []
+
+-- What the definitions write, row by row, with 256 frames of 32 words, and what the rows tell.
+unfoldable pub reports : List Row → List (List ℕ)
+reports [] = []
+reports (r ∷ rest) = reportOf (r .input) 8192 ∷ reports rest
+
+unfoldable pub told : List Row → List (List ℕ)
+told [] = []
+told (r ∷ rest) = ascii (r .report) ∷ told rest
+
+-- THE CLAIM (proofs/Examples.antt, `written`)
+abbrev pub ExampleReports : Type 0
+ExampleReports = reports rows ≡ told rows
