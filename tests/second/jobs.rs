@@ -283,11 +283,37 @@ pub fn cut(dice: &mut Dice) -> Input {
     j
 }
 
+/// A chain of nodes that goes into either child, about 64 levels deep.
+fn crooked(dice: &mut Dice, levels: usize, body: &mut Vec<[u32; 4]>) {
+    let at = body.len();
+    if levels == 1 {
+        return body.push([0, 1, 0, 0]);
+    }
+    let tag = dice.pick(&[2u32, 2, 4]);
+    body.push([tag, 0, at as u32 + 2, 0]);
+    if tag == 4 && body.iter().filter(|n| n[0] == 4).count() > 15 {
+        body[at][0] = 2;
+    }
+    if dice.one_in(2) {
+        body.push([0, 2, 0, 0]);
+        crooked(dice, levels - 1, body);
+    } else {
+        crooked(dice, levels - 1, body);
+        body[at][2] = body.len() as u32;
+        body.push([0, 3, 0, 0]);
+    }
+}
+
 pub fn deep(dice: &mut Dice) -> Input {
     // levels about 64, locals about 16
     let mut j = well_formed(dice);
     let mut body: Vec<[u32; 4]> = Vec::new();
-    if dice.one_in(2) {
+    j.args = vec![];
+    if dice.one_in(3) {
+        let levels = 62 + dice.below(6) as usize;
+        crooked(dice, levels, &mut body);
+        j.table = assemble(&[0, 0], &[vec![[5, 1, 0, 0]], body]);
+    } else if dice.one_in(2) {
         let d = 60 + dice.below(8) as usize;
         body = spine(dice, d);
         j.table = assemble(&[0], &[body]);
@@ -312,7 +338,6 @@ pub fn deep(dice: &mut Dice) -> Input {
         body.push([1, slot, 0, 0]);
         j.table = assemble(&[0], &[body]);
     }
-    j.args = vec![];
     j
 }
 
@@ -332,8 +357,21 @@ pub fn raw(dice: &mut Dice) -> Input {
     j
 }
 
+/// Settings at the ends of their ranges, with a job that is short.
+fn settings_at_ends(dice: &mut Dice, mut j: Input) -> Input {
+    j.table = assemble(&[0], &[small(dice)]);
+    j.args = vec![];
+    j.fuel = dice.pick(&[1, 100_000_000]);
+    j.period = dice.pick(&[1, 10_000]);
+    j.tau = dice.pick(&[1, 10_000]);
+    j
+}
+
 pub fn settings_out(dice: &mut Dice) -> Input {
     let mut j = well_formed(dice);
+    if dice.one_in(5) {
+        return settings_at_ends(dice, j);
+    }
     for _ in 0..1 + dice.below(2) {
         match dice.below(5) {
             0 => {
@@ -467,4 +505,17 @@ pub fn edges(dice: &mut Dice) -> Input {
         }
     }
     j
+}
+
+/// A job of any kind, most of them well-formed.
+pub fn any(dice: &mut Dice) -> (&'static str, Input) {
+    match dice.below(20) {
+        0..=2 => ("mutated", mutated(dice)),
+        3 => ("cut", cut(dice)),
+        4 => ("deep", deep(dice)),
+        5 => ("raw", raw(dice)),
+        6 => ("settings", settings_out(dice)),
+        7 => ("edges", edges(dice)),
+        _ => ("well-formed", well_formed(dice)),
+    }
 }
