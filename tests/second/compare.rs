@@ -262,15 +262,18 @@ fn settled_runs() -> u64 {
     bad
 }
 
-/// The report of document 01, and the program where it cannot write.
+/// The report of document 01; an input that comes in pieces; and the program where it cannot write.
 fn settled_report() -> u64 {
     let j = Input { table: settled::A.to_vec(), args: vec![], fuel: 100, period: 3, tau: 2, workspace: 0 };
     let input = inputs::of(&j);
     let right = report::report(&input) == settled::REPORT.as_bytes();
     let reports = Reports::start();
     reports.send(input.clone());
-    let bad = !right as u64 + reports.end().bad + program::without_output(&input) + program::without_output(&[]);
-    println!("the settled report, and no standard output: {bad} bad");
+    let mut longest = input.clone();
+    longest.resize(65_536, 0);
+    let pieces = program::in_pieces(&input, 3) + program::in_pieces(&longest, 5_001) + program::in_pieces(&vec![1; 65_540], 5_001);
+    let bad = !right as u64 + reports.end().bad + pieces + program::without_output(&input) + program::without_output(&[]);
+    println!("the settled report, input in pieces, no standard output: {bad} bad");
     bad
 }
 

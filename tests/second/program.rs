@@ -107,6 +107,23 @@ impl Reports {
     }
 }
 
+/// The input written in pieces, so that the program reads it in many parts.
+pub fn in_pieces(input: &[u8], size: usize) -> u64 {
+    let mut child = Command::new(path()).stdin(Stdio::piped()).stdout(Stdio::piped()).spawn().expect("the program starts");
+    let mut pipe = child.stdin.take().unwrap();
+    for piece in input.chunks(size) {
+        let _ = pipe.write_all(piece);
+        std::thread::sleep(std::time::Duration::from_millis(2));
+    }
+    drop(pipe);
+    let got = child.wait_with_output().expect("the program ends").stdout;
+    if got == report(input) {
+        return 0;
+    }
+    println!("IN PIECES of {size}: {:?}", shown(&got));
+    1
+}
+
 /// With standard output closed, full, or a pipe that nobody reads the program ends quietly. The last may end it by its signal.
 pub fn without_output(input: &[u8]) -> u64 {
     let program = path();
