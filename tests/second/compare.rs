@@ -1,10 +1,14 @@
-//! Compares the proved machines, through the static library of crate `capi`, with the second implementation.
-//! compare [jobs [seed]]: so many jobs from the fixed seed and from a fresh one, or from the seed given.
+//! Compares the proved machines, through the static library of crate `capi`, and the report program, as a process, with the second
+//! implementation. compare [jobs [seed]]: so many jobs from the fixed seed and from a fresh one, or from the seed given.
+mod inputs;
 mod jobs;
+mod program;
+mod report;
 mod second;
 mod settled;
 
 use jobs::{Dice, Input};
+use program::{Reports, Tally};
 use second::Machine::{self, *};
 use std::collections::{BTreeMap, BTreeSet};
 
@@ -25,18 +29,26 @@ fn proved(m: u32, j: &Input, ws: &mut [u64], answer: &mut [u64]) -> u32 {
     }
 }
 
+fn by_second(m: Machine, j: &Input) -> [u64; 8] {
+    second::run(m, &j.table, &j.args, j.fuel, j.period, j.tau, j.workspace).words()
+}
+
 const ALL: [Machine; 3] = [Sequential, Parallel, Heartbeat];
 
+/// What was compared, and what it was like.
+#[derive(Default)]
 struct Bench {
     ws: Vec<u64>,
-    seen: BTreeMap<String, u64>,
+    jobs: u64,
     bad: u64,
-    promoted: u64,
+    kinds: BTreeMap<&'static str, u64>,
+    answers: BTreeMap<String, u64>,
+    /// For each stop of a machine, and each refusal, the places where it was told.
+    places: BTreeMap<String, BTreeSet<(u64, u64)>>,
+    /// The numbers of frames of the jobs that ran.
+    frames: BTreeSet<usize>,
+    formed_promoted: u64,
     values: u64,
-    triples: u64,
-    demands: u64,
-    last: [[u64; 8]; 3],
-    places: BTreeSet<(u64, u64, u64, u64)>,
 }
 
 impl Bench {
@@ -47,154 +59,188 @@ impl Bench {
         }
     }
 
-    fn one(&mut self, dice: &mut Dice, kind: &str, j: &Input) {
-        self.triples += 1;
-        let mut answers = [[0u64; 8]; 3];
-        for (i, &m) in ALL.iter().enumerate() {
-            let mine = second::run(m, &j.table, &j.args, j.fuel, j.period, j.tau, j.workspace).words();
-            let garbage = dice.next();
-            let mut ws = std::mem::take(&mut self.ws);
-            ws.clear();
-            ws.extend((0..j.workspace as u64).map(|k| garbage.wrapping_mul(2 * k + 1) | 1));
-            let room = 8 + dice.below(3) as usize;
-            let mut answer: Vec<u64> = (0..room).map(|_| dice.next()).collect();
-            let before = answer.clone();
-            let r = proved(i as u32, j, &mut ws, &mut answer);
-            if r != 0 || answer[..8] != mine || answer[8..] != before[8..] {
-                self.fail(kind, j, format!("{m:?}: proved {r} {answer:?}, second {mine:?}"));
-            }
-            let right = if mine[0] == 2 {
-                ws.iter().enumerate().all(|(k, &w)| w == garbage.wrapping_mul(2 * k as u64 + 1) | 1)
-            } else {
-                ws.iter().all(|&w| w == 0)
-            };
-            if !right {
-                self.fail(kind, j, format!("{m:?}: the workspace"));
-            }
-            self.ws = ws;
-            let what = match mine[0] {
-                0 => "value".to_string(),
-                1 => format!("stop {}", mine[1]),
-                _ => format!("refusal {:2}", mine[1]),
-            };
-            *self.seen.entry(format!("{:10} {what}", format!("{m:?}"))).or_default() += 1;
-            answers[i] = mine;
-            if mine[0] > 0 {
-                self.places.insert((mine[0], mine[1], mine[2], mine[3]));
-            }
+    fn note(&mut self, m: Machine, a: [u64; 8]) {
+        let what = match a[0] {
+            0 => format!("{m:?} value"),
+            1 => format!("{m:?} stop {}", a[1]),
+            _ => format!("refusal {}", a[1]),
+        };
+        if a[0] > 0 {
+            self.places.entry(what.clone()).or_default().insert((a[2], a[3]));
         }
-        if dice.one_in(16) {
-            let m = dice.pick(&[3u32, 4, 1 << 31, u32::MAX]);
-            let few = dice.below(8) as usize;
-            for (m, room) in [(m, 9usize), (dice.below(3) as u32, few)] {
-                let mut ws: Vec<u64> = (0..j.workspace as u64).map(|k| k + 7).collect();
-                let mut answer = vec![99u64; room];
-                let r = proved(m, j, &mut ws, &mut answer);
-                if r != 1 || answer.iter().any(|&x| x != 99) || ws.iter().enumerate().any(|(k, &w)| w != k as u64 + 7) {
-                    self.fail(kind, j, format!("machine {m}, {room} answer words: {r}"));
-                }
+        *self.answers.entry(what).or_default() += 1;
+    }
+
+    /// One machine, on a workspace full of garbage, with room for more than an answer.
+    fn machine(&mut self, dice: &mut Dice, kind: &str, i: usize, j: &Input) -> [u64; 8] {
+        let mine = by_second(ALL[i], j);
+        let garbage = dice.next();
+        let filled = |k: usize| garbage.wrapping_mul(2 * k as u64 + 1) | 1;
+        let mut ws = std::mem::take(&mut self.ws);
+        ws.clear();
+        ws.extend((0..j.workspace).map(filled));
+        let room = 8 + dice.below(3) as usize;
+        let mut answer: Vec<u64> = (0..room).map(|_| dice.next()).collect();
+        let before = answer.clone();
+        let r = proved(i as u32, j, &mut ws, &mut answer);
+        if r != 0 || answer[..8] != mine || answer[8..] != before[8..] {
+            self.fail(kind, j, format!("{:?}: proved {r} {answer:?}, second {mine:?}", ALL[i]));
+        }
+        let kept = |(k, w): (usize, &u64)| if mine[0] == 2 { *w == filled(k) } else { *w == 0 };
+        if !ws.iter().enumerate().all(kept) {
+            self.fail(kind, j, format!("{:?}: the workspace", ALL[i]));
+        }
+        self.ws = ws;
+        self.note(ALL[i], mine);
+        mine
+    }
+
+    /// An unknown machine, and too few words for an answer.
+    fn unserved(&mut self, dice: &mut Dice, kind: &str, j: &Input) {
+        let m = dice.pick(&[3u32, 4, 1 << 31, u32::MAX]);
+        let few = dice.below(8) as usize;
+        for (m, room) in [(m, 9usize), (dice.below(3) as u32, few)] {
+            let mut ws: Vec<u64> = (0..j.workspace as u64).map(|k| k + 7).collect();
+            let mut answer = vec![99u64; room];
+            let r = proved(m, j, &mut ws, &mut answer);
+            if r != 1 || answer.iter().any(|&x| x != 99) || ws.iter().enumerate().any(|(k, &w)| w != k as u64 + 7) {
+                self.fail(kind, j, format!("machine {m}, {room} answer words: {r}"));
             }
-            *self.seen.entry("not served".to_string()).or_default() += 2;
+            *self.kinds.entry("not served").or_default() += 1;
         }
-        self.last = answers;
-        // demand 3 on the triple
-        let [s, p, h] = answers;
-        if h[0] == 0 && h[5] > 0 {
-            self.promoted += 1;
+    }
+
+    fn demand_three(&mut self, j: &Input, [s, p, h]: [[u64; 8]; 3]) {
+        let (n, tau) = (j.period as u128, j.tau as u128);
+        let w = |a: [u64; 8], i: usize| a[i] as u128;
+        let span_bound = || tau * w(h, 7) <= (n + tau) * w(p, 7);
+        if p[0] == 0 && h[0] == 0 && !(p[1] == h[1] && span_bound()) {
+            self.fail("the span bound, whatever the sequential run", j, format!("{p:?} {h:?}"));
         }
-        // what needs two of them only
-        let held = (p[0] != 0 || h[0] != 0)
-            || p[1] == h[1] && j.tau as u128 * h[7] as u128 <= (j.period + j.tau) as u128 * p[7] as u128;
+        if s[0] != 0 {
+            return;
+        }
+        self.values += 1;
+        let held = p[0] == 0 && h[0] == 0 && s[1] == p[1] && s[1] == h[1]
+            && n * w(h, 6) <= (n + tau) * w(s, 6)
+            && span_bound()
+            && w(h, 6) + 2 * w(h, 5) == w(s, 6) + tau * w(h, 5);
         if !held {
-            self.fail("the span bound without the sequential run", j, format!("{p:?} {h:?}"));
+            self.fail("demand 3", j, format!("{s:?} {p:?} {h:?}"));
         }
-        if s[0] == 0 {
-            self.values += 1;
-            self.demands += 1;
-            let (n, tau) = (j.period as u128, j.tau as u128);
-            let w = |a: [u64; 8], i: usize| a[i] as u128;
-            let held = p[0] == 0 && h[0] == 0 && s[1] == p[1] && s[1] == h[1]
-                && n * w(h, 6) <= (n + tau) * w(s, 6)
-                && tau * w(h, 7) <= (n + tau) * w(p, 7)
-                && w(h, 6) + 2 * w(h, 5) == w(s, 6) + tau * w(h, 5);
-            if !held {
-                self.fail("demand 3", j, format!("{s:?} {p:?} {h:?}"));
+    }
+
+    fn one(&mut self, dice: &mut Dice, reports: &Reports, kind: &'static str, j: &Input) -> [[u64; 8]; 3] {
+        self.jobs += 1;
+        *self.kinds.entry(kind).or_default() += 1;
+        let answers = [0, 1, 2].map(|i| self.machine(dice, kind, i, j));
+        if dice.one_in(16) {
+            self.unserved(dice, kind, j);
+        }
+        self.demand_three(j, answers);
+        if answers[0][0] < 2 {
+            self.frames.insert(j.workspace / 32);
+        }
+        if kind == "well-formed" && answers[2][0] == 0 && answers[2][5] > 0 {
+            self.formed_promoted += 1;
+        }
+        reports.send(inputs::of(j));
+        answers
+    }
+
+    /// A well-formed job again, with fuel and frames about what it needs.
+    fn tight(&mut self, dice: &mut Dice, reports: &Reports, j: &Input, answers: [[u64; 8]; 3]) {
+        let got = dice.pick(&answers);
+        let mut t = j.clone();
+        if got[0] == 1 && got[1] > 21 {
+            // a stop of the arithmetic with just the transitions made, and with one more
+            for fuel in [got[4].max(1), got[4] + 1] {
+                t.fuel = fuel;
+                self.one(dice, reports, "fuel at a stop", &t);
+            }
+        }
+        if got[0] == 0 && dice.one_in(4) {
+            t.fuel = got[4];
+            self.one(dice, reports, "fuel exact", &t);
+            for _ in 0..3 {
+                t.fuel = 1 + dice.below(got[4]);
+                self.one(dice, reports, "fuel tight", &t);
+            }
+            t.fuel = j.fuel;
+            t.workspace = 32 * (1 + dice.below(12) as usize);
+            self.one(dice, reports, "frames tight", &t);
+        }
+    }
+
+    fn jobs(&mut self, dice: &mut Dice, reports: &Reports, count: u64) {
+        for k in 0..count {
+            let (kind, j) = jobs::any(dice);
+            let answers = self.one(dice, reports, kind, &j);
+            if kind == "well-formed" {
+                self.tight(dice, reports, &j, answers);
+            }
+            if k % 4 == 0 {
+                let (kind, input) = inputs::odd(dice);
+                *self.kinds.entry(kind).or_default() += 1;
+                reports.send(input);
             }
         }
     }
 }
 
+/// How many of the things asked for are too few in a round of 20,000 jobs; a smaller round is held to its share.
+fn too_few(b: &Bench, reports: &Tally, count: u64) -> u64 {
+    let mut few = 0;
+    let mut want = |what: String, have: usize, least: u64| {
+        if (have as u64) < least {
+            println!("  TOO FEW {what}: {have}, not {least}");
+            few += 1;
+        }
+    };
+    let share = |n: u64| n * count.min(20_000) / 20_000;
+    let formed = b.kinds["well-formed"];
+    want("well-formed jobs with a value and a promotion".into(), b.formed_promoted as usize, formed.div_ceil(4));
+    want("jobs with demand 3".into(), b.values as usize, share(5_000));
+    let places = |what: &str| b.places.get(what).map_or(0, |p| p.len());
+    for m in ALL {
+        for (number, least) in [(20, 200), (21, 40), (22, 40), (23, 20), (24, 20)] {
+            let what = format!("{m:?} stop {number}");
+            want(format!("places of {what}"), places(&what), share(least));
+        }
+    }
+    for (number, least) in [(1, 1), (2, 6), (3, 1), (4, 150), (5, 40), (6, 12), (7, 1), (8, 1), (9, 1), (10, 1), (11, 1)] {
+        let what = format!("refusal {number}");
+        want(format!("places of {what}"), places(&what), share(least).max(1));
+    }
+    want("numbers of frames".into(), b.frames.len(), share(150));
+    want("jobs with 1 frame and with 4,096".into(), [1, 4_096].iter().filter(|&f| b.frames.contains(f)).count(), 2);
+    for kind in ["fuel exact", "fuel tight", "fuel at a stop", "frames tight", "mutated", "raw", "long", "random bytes", "short", "not served"] {
+        want(format!("jobs of kind {kind}"), b.kinds.get(kind).copied().unwrap_or(0) as usize, share(60));
+    }
+    for number in 1..=10 {
+        let what = format!("refused {number}");
+        want(format!("reports {what}"), reports.lines.get(&what).copied().unwrap_or(0) as usize, share(20));
+    }
+    for what in ["breadth none", "breadth number", "sequential stop 20", "parallel stop 21", "heartbeat stop 22"] {
+        want(format!("reports {what}"), reports.lines.get(what).copied().unwrap_or(0) as usize, share(100));
+    }
+    few
+}
+
 fn round(count: u64, seed: u64) -> u64 {
     let mut dice = Dice(seed);
-    let mut b = Bench { ws: vec![], seen: BTreeMap::new(), bad: 0, promoted: 0, values: 0, triples: 0, demands: 0, last: [[0; 8]; 3], places: BTreeSet::new() };
-    let mut formed = 0;
-    let mut formed_promoted = 0;
-    let mut kinds: BTreeMap<&str, u64> = BTreeMap::new();
-    for _ in 0..count {
-        let (kind, j) = match dice.below(20) {
-            0 | 1 | 2 => ("mutated", jobs::mutated(&mut dice)),
-            3 => ("cut", jobs::cut(&mut dice)),
-            4 => ("deep", jobs::deep(&mut dice)),
-            5 => ("raw", jobs::raw(&mut dice)),
-            6 => ("settings", jobs::settings_out(&mut dice)),
-            7 => ("edges", jobs::edges(&mut dice)),
-            _ => ("well-formed", jobs::well_formed(&mut dice)),
-        };
-        *kinds.entry(kind).or_default() += 1;
-        let before = b.promoted;
-        b.one(&mut dice, kind, &j);
-        if kind == "well-formed" {
-            formed += 1;
-            formed_promoted += b.promoted - before;
-        }
-        // a stop of the arithmetic with just the fuel made, and with one more
-        if kind == "well-formed" {
-            let m = dice.pick(&ALL);
-            let got = b.last[ALL.iter().position(|x| *x == m).unwrap()];
-            if got[0] == 1 && got[1] > 21 && got[4] > 0 {
-                let mut t = j.clone();
-                t.fuel = got[4];
-                b.one(&mut dice, "fuel at a stop", &t);
-                t.fuel = got[4] + 1;
-                b.one(&mut dice, "fuel past a stop", &t);
-                *kinds.entry("at a stop").or_default() += 2;
-            }
-        }
-        // tight fuel and tight frames of a job that has a value
-        if kind == "well-formed" && dice.one_in(4) {
-            let m = dice.pick(&ALL);
-            let got = second::run(m, &j.table, &j.args, j.fuel, j.period, j.tau, j.workspace).words();
-            if got[0] == 0 && got[4] > 0 {
-                let mut t = j.clone();
-                t.fuel = got[4];
-                b.one(&mut dice, "fuel exact", &t);
-                for _ in 0..3 {
-                    t.fuel = 1 + dice.below(got[4]);
-                    b.one(&mut dice, "fuel tight", &t);
-                }
-                t.fuel = j.fuel;
-                t.workspace = 32 * (1 + dice.below(12) as usize);
-                b.one(&mut dice, "frames tight", &t);
-                *kinds.entry("tight").or_default() += 5;
-            }
-        }
-    }
-    println!("seed {seed}: {} jobs (each by three machines), {} disagreements", b.triples, b.bad);
-    println!("  kinds {kinds:?}");
-    println!("  well-formed with a value and a promotion: {formed_promoted} of {formed}; all values {}; demand 3 on {}", b.values, b.demands);
-    for (k, n) in &b.seen {
-        println!("  {k}: {n}");
-    }
-    let mut spread: BTreeMap<u64, u64> = BTreeMap::new();
-    for p in &b.places {
-        *spread.entry(p.1).or_default() += 1;
-    }
-    println!("  different places of each number: {spread:?}");
-    if formed_promoted * 4 < formed {
-        println!("  too few promotions");
-        return b.bad + 1;
-    }
-    b.bad
+    let mut b = Bench::default();
+    let reports = Reports::start();
+    b.jobs(&mut dice, &reports, count);
+    let reports = reports.end();
+    println!("seed {seed}: {} jobs, each by three machines, {} disagreements; {} reports, {} disagreements", b.jobs, b.bad, reports.runs, reports.bad);
+    println!("  kinds: {:?}", b.kinds);
+    println!("  well-formed with a value and a promotion: {} of {}; demand 3 on {} jobs", b.formed_promoted, b.kinds["well-formed"], b.values);
+    println!("  answers: {:?}", b.answers);
+    println!("  different places: {:?}", b.places.iter().map(|(k, p)| (k, p.len())).collect::<Vec<_>>());
+    println!("  frames: {} numbers, from {:?} to {:?}", b.frames.len(), b.frames.first(), b.frames.last());
+    println!("  lines of reports: {:?}", reports.lines);
+    b.bad + reports.bad + too_few(&b, &reports, count)
 }
 
 fn settled_runs() -> u64 {
@@ -202,7 +248,7 @@ fn settled_runs() -> u64 {
     let rows = settled::rows();
     for r in &rows {
         let j = Input { table: r.table.clone(), args: vec![], fuel: r.fuel, period: r.period, tau: r.tau, workspace: 32 * r.frames };
-        let mine = second::run(r.machine, &j.table, &j.args, j.fuel, j.period, j.tau, j.workspace).words();
+        let mine = by_second(r.machine, &j);
         let mut ws = vec![5u64; j.workspace];
         let mut answer = [9u64; 8];
         let m = ALL.iter().position(|m| *m == r.machine).unwrap() as u32;
@@ -216,21 +262,36 @@ fn settled_runs() -> u64 {
     bad
 }
 
+/// The report of document 01; an input that comes in pieces; and the program where it cannot write.
+fn settled_report() -> u64 {
+    let j = Input { table: settled::A.to_vec(), args: vec![], fuel: 100, period: 3, tau: 2, workspace: 0 };
+    let input = inputs::of(&j);
+    let right = report::report(&input) == settled::REPORT.as_bytes();
+    let reports = Reports::start();
+    reports.send(input.clone());
+    let mut longest = input.clone();
+    longest.resize(65_536, 0);
+    let pieces = program::in_pieces(&input, 3) + program::in_pieces(&longest, 5_001) + program::in_pieces(&vec![1; 65_540], 5_001);
+    let bad = !right as u64 + reports.end().bad + pieces + program::without_output(&input) + program::without_output(&[]);
+    println!("the settled report, input in pieces, no standard output: {bad} bad");
+    bad
+}
+
 fn all() -> u64 {
     let words: Vec<String> = std::env::args().collect();
     let count = words.get(1).map_or(20_000, |w| w.parse().expect("a number of jobs"));
-    let mut bad = settled_runs();
+    let bad = settled_runs() + settled_report();
     if let Some(seed) = words.get(2) {
         return bad + round(count, seed.parse().expect("a seed"));
     }
-    bad += round(count, 2026);
     let fresh = std::time::SystemTime::now().duration_since(std::time::UNIX_EPOCH).unwrap().as_nanos() as u64;
     println!("fresh seed {fresh}");
-    bad + round(count, fresh)
+    bad + round(count, 2026) + round(count, fresh)
 }
 
 fn main() {
     // the second implementation is recursive: one Rust call a machine
     let bad = std::thread::Builder::new().stack_size(1 << 30).spawn(all).unwrap().join().unwrap();
+    println!("{}", if bad == 0 { "all agree" } else { "NOT ALL AGREE" });
     std::process::exit((bad > 0) as i32);
 }

@@ -283,11 +283,37 @@ pub fn cut(dice: &mut Dice) -> Input {
     j
 }
 
+/// A chain of nodes that goes into either child, about 64 levels deep.
+fn crooked(dice: &mut Dice, levels: usize, body: &mut Vec<[u32; 4]>) {
+    let at = body.len();
+    if levels == 1 {
+        return body.push([0, 1, 0, 0]);
+    }
+    let tag = dice.pick(&[2u32, 2, 4]);
+    body.push([tag, 0, at as u32 + 2, 0]);
+    if tag == 4 && body.iter().filter(|n| n[0] == 4).count() > 15 {
+        body[at][0] = 2;
+    }
+    if dice.one_in(2) {
+        body.push([0, 2, 0, 0]);
+        crooked(dice, levels - 1, body);
+    } else {
+        crooked(dice, levels - 1, body);
+        body[at][2] = body.len() as u32;
+        body.push([0, 3, 0, 0]);
+    }
+}
+
 pub fn deep(dice: &mut Dice) -> Input {
     // levels about 64, locals about 16
     let mut j = well_formed(dice);
     let mut body: Vec<[u32; 4]> = Vec::new();
-    if dice.one_in(2) {
+    j.args = vec![];
+    if dice.one_in(3) {
+        let levels = 62 + dice.below(6) as usize;
+        crooked(dice, levels, &mut body);
+        j.table = assemble(&[0, 0], &[vec![[5, 1, 0, 0]], body]);
+    } else if dice.one_in(2) {
         let d = 60 + dice.below(8) as usize;
         body = spine(dice, d);
         j.table = assemble(&[0], &[body]);
@@ -312,7 +338,6 @@ pub fn deep(dice: &mut Dice) -> Input {
         body.push([1, slot, 0, 0]);
         j.table = assemble(&[0], &[body]);
     }
-    j.args = vec![];
     j
 }
 
@@ -332,8 +357,21 @@ pub fn raw(dice: &mut Dice) -> Input {
     j
 }
 
+/// Settings at the ends of their ranges, with a job that is short.
+fn settings_at_ends(dice: &mut Dice, mut j: Input) -> Input {
+    j.table = assemble(&[0], &[small(dice)]);
+    j.args = vec![];
+    j.fuel = dice.pick(&[1, 100_000_000]);
+    j.period = dice.pick(&[1, 10_000]);
+    j.tau = dice.pick(&[1, 10_000]);
+    j
+}
+
 pub fn settings_out(dice: &mut Dice) -> Input {
     let mut j = well_formed(dice);
+    if dice.one_in(5) {
+        return settings_at_ends(dice, j);
+    }
     for _ in 0..1 + dice.below(2) {
         match dice.below(5) {
             0 => {
@@ -357,114 +395,120 @@ fn small(dice: &mut Dice) -> Vec<[u32; 4]> {
     }
 }
 
-/// Tables at the reader's limits: 64 and 65 functions, 4,000 and 4,001 nodes, sums that would wrap, two faults at one node.
+/// 62 to 66 functions; the first calls one of them, or one past the last.
+fn many_functions(dice: &mut Dice) -> Vec<u32> {
+    let functions = 62 + dice.below(5) as usize;
+    let mut bodies: Vec<_> = (0..functions).map(|_| small(dice)).collect();
+    bodies[0] = vec![[5, dice.below(functions as u64 + 2) as u32, 0, 0]];
+    assemble(&vec![0; functions], &bodies)
+}
+
+/// A sum of ones, with its additions in the right operand's place.
+fn sum_of_ones(pairs: usize) -> Vec<[u32; 4]> {
+    let mut b: Vec<[u32; 4]> = (0..pairs as u32).flat_map(|i| [[2, 0, 2 * i + 2, 0], [0, 1, 0, 0]]).collect();
+    b.push([0, 1, 0, 0]);
+    b
+}
+
+/// 3,998 to 4,002 nodes in all.
+fn many_nodes(dice: &mut Dice) -> Vec<u32> {
+    let mut left = 3_998 + dice.below(5) as usize;
+    let mut bodies = Vec::new();
+    while left > 0 {
+        let b = sum_of_ones((30 + dice.below(30) as usize).min((left - 1) / 2));
+        left -= b.len();
+        bodies.push(b);
+    }
+    bodies.truncate(64);
+    assemble(&vec![0; bodies.len()], &bodies)
+}
+
+/// Counts of nodes whose sum in 32 bits would be small.
+fn wrapping_counts(dice: &mut Dice) -> Vec<u32> {
+    let functions = 2 + dice.below(4) as usize;
+    let bodies: Vec<_> = (0..functions).map(|_| small(dice)).collect();
+    let mut table = assemble(&vec![0; functions], &bodies);
+    let f = 2 + 2 * dice.below(functions as u64) as usize;
+    let g = 2 + 2 * dice.below(functions as u64) as usize;
+    if f == g {
+        table[f] = dice.pick(&[u32::MAX, 1 << 30, (1 << 30) + 1, 4_000]);
+    } else {
+        let both = table[f] + table[g];
+        table[f] = 0u32.wrapping_sub(dice.below(3) as u32 + 1);
+        table[g] = both.wrapping_sub(table[f]);
+    }
+    table
+}
+
+/// A chain to about level 64 that ends early, or in a node with two faults.
+fn chain_end(dice: &mut Dice) -> Vec<u32> {
+    let d = 62 + dice.below(4) as usize;
+    let tag = dice.pick(&[2u32, 4, 6, 3]);
+    let mut b: Vec<[u32; 4]> = (0..d).map(|_| [tag, 0, 0, 0]).collect();
+    match dice.below(4) {
+        0 => {}
+        1 => b.push([1, 0, 0, 0]),
+        2 => b.push([1, 0, 0, 1]),
+        _ => b.push([7, 0, 0, 0]),
+    }
+    assemble(&[0], &[b])
+}
+
+/// 14 to 16 locals, and then a node that binds or reads one more, with or without an unused word that is not 0.
+fn many_locals(dice: &mut Dice) -> Vec<u32> {
+    let bound = 14 + dice.below(3) as u32;
+    let mut b: Vec<[u32; 4]> = (0..bound).flat_map(|i| [[4, 0, 2 * i + 2, 0], [0, i, 0, 0]]).collect();
+    let at = b.len() as u32;
+    let a = if dice.one_in(3) { dice.below(18) as u32 } else { 0 };
+    let unused = dice.below(2) as u32;
+    match dice.pick(&[1u32, 4, 6]) {
+        1 => b.push([1, bound - 1 + dice.below(3) as u32, 0, unused]),
+        4 => b.extend([[4, a, at + 2, unused], [0, 1, 0, 0], [1, bound, 0, 0]]),
+        _ => b.extend([[6, a, at + 2, at + 3], [0, 1, 0, 0], [1, 3, 0, 0], [1, bound + dice.below(3) as u32, 0, 0]]),
+    }
+    assemble(&[0], &[b])
+}
+
+/// Recursion about as deep as there are frames: f(n) = n = 0 ? 0 : n + f(n - 1), or the same with f(n - 1) in a fork.
+fn deep_recursion(dice: &mut Dice, j: &mut Input) -> Vec<u32> {
+    let body: Vec<[u32; 4]> = if dice.one_in(2) {
+        vec![
+            [3, 0, 2, 9], [1, 0, 0, 0], [6, 0, 7, 8], [5, 1, 0, 0], [2, 1, 6, 0], [1, 0, 0, 0], [0, 1, 0, 0],
+            [1, 0, 0, 0], [1, 1, 0, 0], [0, 0, 0, 0],
+        ]
+    } else {
+        vec![[3, 0, 2, 8], [1, 0, 0, 0], [2, 0, 4, 0], [1, 0, 0, 0], [5, 1, 0, 0], [2, 1, 7, 0], [1, 0, 0, 0], [0, 1, 0, 0], [0, 0, 0, 0]]
+    };
+    j.fuel = dice.pick(&[100_000, 100_000, 20_000]);
+    j.workspace = 32 * dice.pick(&[64, 1_000, 4_090, 4_095, 4_096, 4_096]);
+    let depth = dice.pick(&[10u32, 100, 1_000, 4_090, 4_095, 4_096]);
+    assemble(&[0, 1], &[vec![[5, 1, 0, 0], [0, depth, 0, 0]], body])
+}
+
+/// Tables at the reader's limits, and runs at the limit of the frames.
 pub fn edges(dice: &mut Dice) -> Input {
     let mut j = well_formed(dice);
     j.args = vec![];
-    match dice.below(6) {
-        0 => {
-            let functions = 62 + dice.below(5) as usize;
-            let mut bodies: Vec<_> = (0..functions).map(|_| small(dice)).collect();
-            let most = functions.max(1) as u64;
-            let f = dice.below(most + 2) as u32;
-            bodies[0] = vec![[5, f, 0, 0]];
-            j.table = assemble(&vec![0; functions], &bodies);
-        }
-        1 => {
-            // n nodes in all, in a few bodies that are spines of lets
-            let n = 3_998 + dice.below(5) as usize;
-            let mut left = n;
-            let mut bodies = Vec::new();
-            while left > 0 {
-                let pairs = (30 + dice.below(30) as usize).min((left - 1) / 2);
-                let mut b: Vec<[u32; 4]> = Vec::new();
-                for _ in 0..pairs {
-                    let at = b.len() as u32;
-                    b.push([2, 0, at + 2, 0]);
-                    b.push([0, 1, 0, 0]);
-                }
-                b.push([0, 1, 0, 0]);
-                left -= b.len();
-                bodies.push(b);
-            }
-            while bodies.len() > 64 {
-                bodies.pop();
-            }
-            j.table = assemble(&vec![0; bodies.len()], &bodies);
-        }
-        2 => {
-            // counts whose sum in 32 bits would be small
-            let functions = 2 + dice.below(4) as usize;
-            let bodies: Vec<_> = (0..functions).map(|_| small(dice)).collect();
-            j.table = assemble(&vec![0; functions], &bodies);
-            let f = dice.below(functions as u64) as usize;
-            let g = dice.below(functions as u64) as usize;
-            if f == g {
-                j.table[2 + 2 * f] = dice.pick(&[u32::MAX, 1 << 30, (1 << 30) + 1, 4_000]);
-            } else {
-                let other = j.table[2 + 2 * f] + j.table[2 + 2 * g];
-                j.table[2 + 2 * f] = 0u32.wrapping_sub(dice.below(3) as u32 + 1);
-                j.table[2 + 2 * g] = other.wrapping_sub(j.table[2 + 2 * f]);
-            }
-        }
-        3 => {
-            // a chain to about level 64 that ends early, or in a node with two faults
-            let d = 62 + dice.below(4) as usize;
-            let tag = dice.pick(&[2u32, 4, 6, 3]);
-            let mut b: Vec<[u32; 4]> = (0..d).map(|_| [tag, 0, 0, 0]).collect();
-            match dice.below(4) {
-                0 => {}
-                1 => b.push([1, 0, 0, 0]),
-                2 => b.push([1, 0, 0, 1]),
-                _ => b.push([7, 0, 0, 0]),
-            }
-            j.table = assemble(&[0], &[b]);
-        }
-        4 => {
-            // 15 to 17 locals, and at the next node faults 4, 5 together
-            let mut b: Vec<[u32; 4]> = Vec::new();
-            let bound = 14 + dice.below(3) as u32;
-            for i in 0..bound {
-                let at = 2 * i;
-                b.push([4, 0, at + 2, 0]);
-                b.push([0, i, 0, 0]);
-            }
-            let at = b.len() as u32;
-            let tag = dice.pick(&[4u32, 6, 1]);
-            let a = if dice.one_in(3) { dice.below(18) as u32 } else { 0 };
-            let slot = if tag == 1 { bound - 1 + dice.below(3) as u32 } else { a };
-            b.push([tag, slot, if tag == 1 { 0 } else { at + 2 }, if tag == 6 { at + 3 } else { dice.below(2) as u32 }]);
-            if tag != 1 {
-                b.push([0, 1, 0, 0]);
-                b.push([1, bound, 0, 0]);
-                if tag == 6 {
-                    b[at as usize + 2][1] = 3;
-                    b.push([1, bound + dice.below(3) as u32, 0, 0]);
-                }
-            }
-            j.table = assemble(&[0], &[b]);
-        }
-        _ => {
-            // recursion as deep as the frames: sum(n) = n = 0 ? 0 : n + sum(n - 1), or by a fork
-            let f = dice.one_in(2);
-            let body: Vec<[u32; 4]> = if f {
-                vec![
-                    [3, 0, 2, 10], [1, 0, 0, 0], [6, 0, 7, 8], [5, 1, 0, 0], [2, 1, 6, 0], [1, 0, 0, 0], [0, 1, 0, 0],
-                    [1, 0, 0, 0], [1, 1, 0, 0], [0, 0, 0, 0], [0, 0, 0, 0],
-                ]
-            } else {
-                vec![[3, 0, 2, 8], [1, 0, 0, 0], [2, 0, 4, 0], [1, 0, 0, 0], [5, 1, 0, 0], [2, 1, 7, 0], [1, 0, 0, 0], [0, 1, 0, 0], [0, 0, 0, 0]]
-            };
-            let mut body = body;
-            if f {
-                body.remove(9);
-                body[0] = [3, 0, 2, 9];
-            }
-            let depth = dice.pick(&[10u32, 100, 1_000, 4_090, 4_095, 4_096]);
-            j.table = assemble(&[0, 1], &[vec![[5, 1, 0, 0], [0, depth, 0, 0]], body]);
-            j.fuel = dice.pick(&[100_000, 100_000, 20_000]);
-            j.workspace = 32 * dice.pick(&[64, 1_000, 4_090, 4_095, 4_096, 4_096]);
-        }
-    }
+    j.table = match dice.below(6) {
+        0 => many_functions(dice),
+        1 => many_nodes(dice),
+        2 => wrapping_counts(dice),
+        3 => chain_end(dice),
+        4 => many_locals(dice),
+        _ => deep_recursion(dice, &mut j),
+    };
     j
+}
+
+/// A job of any kind, most of them well-formed.
+pub fn any(dice: &mut Dice) -> (&'static str, Input) {
+    match dice.below(20) {
+        0..=2 => ("mutated", mutated(dice)),
+        3 => ("cut", cut(dice)),
+        4 => ("deep", deep(dice)),
+        5 => ("raw", raw(dice)),
+        6 => ("settings", settings_out(dice)),
+        7 => ("edges", edges(dice)),
+        _ => ("well-formed", well_formed(dice)),
+    }
 }

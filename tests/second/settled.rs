@@ -17,6 +17,13 @@ pub const A: [u32; 31] = [
     1, 0, 7, 6, 0, 5, 6, 6, 0, 3, 4, 0, 3, 0, 0, 0, 4, 0, 0, 1, 1, 0, 0, 0, 5, 0, 0, 1, 0, 0, 0,
 ];
 
+pub const REPORT: &str = "\
+sequential value 4 work 11 span 11 forks 0
+parallel value 4 work 9 span 7 forks 2
+heartbeat value 4 work 11 span 10 forks 1
+breadth 1
+";
+
 fn value(v: u64, forks: Option<u64>, work: Option<u64>, span: Option<u64>) -> [Option<u64>; 8] {
     [Some(0), Some(v), Some(0), Some(0), None, forks, work, span]
 }

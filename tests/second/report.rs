@@ -1,0 +1,72 @@
+//! The report program of document 01, written from the document alone: its bytes for any input bytes.
+use crate::second::{self, Answer, Machine};
+
+const MOST_BYTES: usize = 65_536;
+const FRAMES: usize = 256;
+
+/// What the input asks for, with the house defaults taken.
+struct Asked {
+    fuel: u64,
+    period: u64,
+    tau: u64,
+    args: Vec<u64>,
+    table: Vec<u32>,
+}
+
+fn asked(input: &[u8]) -> Option<Asked> {
+    if input.len() > MOST_BYTES || input.len() % 4 != 0 {
+        return None;
+    }
+    let words: Vec<u32> = input.chunks(4).map(|b| u32::from_le_bytes([b[0], b[1], b[2], b[3]])).collect();
+    let (first, rest) = (words.get(..4)?, &words[4..]);
+    if first[3] > 3 {
+        return None;
+    }
+    let args = rest.get(..2 * first[3] as usize)?;
+    let or = |word: u32, default: u64| if word == 0 { default } else { word as u64 };
+    Some(Asked {
+        fuel: or(first[0], 1_000_000),
+        period: or(first[1], 1_000),
+        tau: or(first[2], 50),
+        args: args.chunks(2).map(|p| p[0] as u64 | (p[1] as u64) << 32).collect(),
+        table: rest[args.len()..].to_vec(),
+    })
+}
+
+fn refused(number: u64, function: usize, node: usize) -> String {
+    format!("refused {number} function {function} node {node}\n")
+}
+
+fn line(machine: &str, answer: Answer) -> String {
+    match answer {
+        Answer::Value { value, forks, work, span, .. } => {
+            format!("{machine} value {value} work {work} span {span} forks {forks}\n")
+        }
+        Answer::Stopped { number, function, node, transitions } => {
+            format!("{machine} stop {number} function {function} node {node} transitions {transitions}\n")
+        }
+        Answer::Refused { .. } => unreachable!("all three machines check the same"),
+    }
+}
+
+fn breadth(parallel: Answer) -> String {
+    match parallel {
+        Answer::Value { work, span, .. } => format!("breadth {}\n", work / span),
+        _ => "breadth none\n".to_string(),
+    }
+}
+
+fn told(input: &[u8]) -> String {
+    let Some(a) = asked(input) else { return refused(1, 0, 0) };
+    let run = |m| second::run(m, &a.table, &a.args, a.fuel, a.period, a.tau, 32 * FRAMES);
+    let sequential = run(Machine::Sequential);
+    if let Answer::Refused { number, function, node } = sequential {
+        return refused(number, function, node);
+    }
+    let (parallel, heartbeat) = (run(Machine::Parallel), run(Machine::Heartbeat));
+    line("sequential", sequential) + &line("parallel", parallel) + &line("heartbeat", heartbeat) + &breadth(parallel)
+}
+
+pub fn report(input: &[u8]) -> Vec<u8> {
+    told(input).into_bytes()
+}
