@@ -6,10 +6,10 @@
 --     no-words, by-words      the report on bytes that are no words, and on bytes that are
 --     too-long, ragged, all-words   which bytes are words
 -- Assumes nothing.
-use mathlib.Core.Path.{_≡_, refl, sym, ap, subst, _∙_}
+use mathlib.Core.Path.{_≡_, refl, sym, _∙_}
 use Prim.Native.Nat.{ℕ, _+_, _-_, _*_, _%_, _≤_, _<_}
-use mathlib.Core.Bool.{Bool, true, false, not, cond, _&&_}
-use mathlib.Core.List.{List, _++_}
+use mathlib.Core.Bool.{Bool, true, false, not, _&&_}
+use mathlib.Core.List.{List}
 use native.Mathlib.Omega.{arith}
 use lib.ListN.{length, take, drop, length-drop}
 use lib.Seq.{paste, take-at, take-all, length-take-le}
@@ -21,7 +21,6 @@ use Rattle.io.specs.Counts.{Counts as Within}
 use Rattle.language.specs.declared.Counts.{Counts}
 use Rattle.language.specs.declared.Answer.{Answer}
 use Rattle.language.specs.declared.Answer.the-variants.{Value, Stopped, Refused}
-use Rattle.language.specs.Answers.{sequentialOf, parallelOf, heartbeatOf}
 use Rattle.language.proofs.Claim.{claim}
 use Rattle.machine.specs.declared.Answers.{Answers}
 use Rattle.machine.specs.AllThree.{AllThree}

@@ -1,41 +1,32 @@
-use Rattle.capi.specs.Words.{wordsOf}
+-- `capi::words_of` meets its contract, case by case. Assumes nothing.
 use borrow.Author.Needs.{needs}
+use Rattle.capi.specs.Words.{wordsOf}
 use Rattle.capi.proofs.words_of.Statement.{statement}
 use Rattle.capi.proofs.words_of.Tie as tie
-use Rattle.capi.proofs.words_of.Reads as reads
-use Rattle.capi.proofs.words_of.Lts as lts
 
--- src/lib.rt:31:23
 enum-known-answer : tie.Need-enum-known-answer
 enum-known-answer c = search needs
 
--- src/lib.rt:41:25
 enum-known-answer-2 : tie.Need-enum-known-answer-2
 enum-known-answer-2 c = search needs
 
--- src/lib.rt:43:19
 cast-t7 : tie.Need-cast-t7
 cast-t7 c = search needs
 
--- src/lib.rt:51:25
 enum-known-answer-3 : tie.Need-enum-known-answer-3
 enum-known-answer-3 c = search needs
 
--- src/lib.rt:53:19
 cast-t10 : tie.Need-cast-t10
 cast-t10 c = search needs
 
--- src/lib.rt:27:1
 returns : tie.Need-returns
 unfolding wordsOf
 returns c = rw (c .before .answer .given .1)
 
--- src/lib.rt:27:1
 returns-2 : tie.Need-returns-2
 unfolding wordsOf
 returns-2 c = rw (c .before .before .answer2 .given .1)
 
--- src/lib.rt:27:1
 returns-3 : tie.Need-returns-3
 unfolding wordsOf
 returns-3 c = rw (c .before .before .answer3 .given .1)

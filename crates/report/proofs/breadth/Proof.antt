@@ -1,19 +1,15 @@
+-- `report::breadth` meets its contract: the quotient by 0 is 0. Assumes nothing.
 use native.Mathlib.Nat.{div-zero}
 use borrow.Author.Needs.{needs}
 use Rattle.report.proofs.breadth.Statement.{statement}
 use Rattle.report.proofs.breadth.Tie as tie
-use Rattle.report.proofs.breadth.Reads as reads
-use Rattle.report.proofs.breadth.Lts as lts
 
--- src/lib.rt:176:33
 div-result : tie.Need-div-result
 div-result c = search needs
 
--- src/lib.rt:171:1
 returns : tie.Need-returns
 returns c = rw (c .if1 .taken, div-zero)
 
--- src/lib.rt:171:1
 returns-2 : tie.Need-returns-2
 returns-2 c = search needs
 

@@ -1,62 +1,46 @@
+-- `report::breadth_line` meets its contract: the quotient and a newline, or `none` where there is no value (proofs/Telling.antt). Assumes nothing.
 use mathlib.Core.Logic.{⊎-elim}
-use Rattle.report.proofs.Telling.{no-value}
 use native.Mathlib.Omega.{arith}
-use Rattle.report.specs.Lines.{breadthLine}
-use Rattle.report.proofs.Buffer.{then, same}
 use borrow.Author.Needs.{needs}
+use Rattle.report.proofs.Telling.{no-value}
+use Rattle.report.specs.Lines.{breadthLine}
+use Rattle.report.proofs.Buffer.{then}
 use Rattle.report.proofs.breadth_line.Statement.{statement}
 use Rattle.report.proofs.breadth_line.Tie as tie
-use Rattle.report.proofs.breadth_line.Reads as reads
-use Rattle.report.proofs.breadth_line.Lts as lts
-use Rattle.report.proofs.breadth.Reads as breadth-reads
-use Rattle.report.proofs.number.Reads as number-reads
-use Rattle.report.proofs.put.Reads as put-reads
 
--- src/lib.rt:184:26
 enum-known-parallel : tie.Need-enum-known-parallel
 enum-known-parallel c = search needs
 
--- src/lib.rt:185:29
 slice-aggregate-put : tie.Need-slice-aggregate-put
 slice-aggregate-put c = search needs
 
--- src/lib.rt:185:9
 put-requires : tie.Need-put-requires
 put-requires c κs = search needs
 
--- src/lib.rt:185:9
 same-length : tie.Need-same-length
 same-length c = search needs
 
--- src/lib.rt:185:9
 returns : tie.Need-returns
 returns c = (rw (← no-value (c .before .before .before .before .before .before .before .args .parallel) (λ v counts e. ⊎-elim (λ x. omega arith) (λ x. omega arith) (rw e at (c .before .before .before .before .before .match .keys2)))) (c .before .before .put .ensures), omega (arith, c .before .before .put .ensures .ends))
 
--- src/lib.rt:187:31
 slice-aggregate-number : tie.Need-slice-aggregate-number
 slice-aggregate-number c = search needs
 
--- src/lib.rt:187:44
 breadth-requires : tie.Need-breadth-requires
 breadth-requires c κs = search needs
 
--- src/lib.rt:187:9
 number-requires : tie.Need-number-requires
 number-requires c κs = search needs
 
--- src/lib.rt:188:19
 slice-aggregate-put-2 : tie.Need-slice-aggregate-put-2
 slice-aggregate-put-2 c = search needs
 
--- src/lib.rt:188:5
 put-requires-2 : tie.Need-put-requires-2
 put-requires-2 c κs = search needs
 
--- src/lib.rt:179:1
 same-length-2 : tie.Need-same-length-2
 same-length-2 c = search needs
 
--- src/lib.rt:179:1
 returns-2 : tie.Need-returns-2
 unfolding breadthLine
 returns-2 c = (rw (c .before .before .before .before .before .before .before .before .before .before .before .before .parallel .given .1, ← c .before .before .before .before .before .before .before .before .breadth .ensures) (then (c .before .before .before .before .before .before .before .number .ensures .0) (c .before .before .put2 .ensures)), omega (arith, c .before .before .before .before .before .before .before .number .ensures .1, c .before .before .put2 .ensures .ends))

@@ -1,43 +1,33 @@
+-- `report::has_job` meets its contract, test by test. Assumes nothing.
 use borrow.Author.Tests.{le-leb, lt-leb}
-use Rattle.report.specs.Input.{complete}
 use borrow.Author.Needs.{needs}
+use Rattle.report.specs.Input.{complete}
 use Rattle.report.proofs.has_job.Statement.{statement}
 use Rattle.report.proofs.has_job.Tie as tie
-use Rattle.report.proofs.has_job.Reads as reads
-use Rattle.report.proofs.has_job.Lts as lts
-use Rattle.report.proofs.wide.Reads as wide-reads
 
--- src/lib.rt:213:9
 returns : tie.Need-returns
 unfolding complete
 returns c = rw (lt-leb _ _ (c .if1 .taken))
 
--- src/lib.rt:215:12
 shared-slice-read-if2 : tie.Need-shared-slice-read-if2
 shared-slice-read-if2 c = search needs
 
--- src/lib.rt:216:9
 returns-2 : tie.Need-returns-2
 unfolding complete
 returns-2 c = rw (le-leb _ _ (c .before .before .if1 .left), lt-leb _ _ (c .if2 .taken))
 
--- src/lib.rt:218:18
 shared-slice-read-wide : tie.Need-shared-slice-read-wide
 shared-slice-read-wide c = search needs
 
--- src/lib.rt:218:13
 wide-requires : tie.Need-wide-requires
 wide-requires c κs = search needs
 
--- src/lib.rt:218:9
 mul-result : tie.Need-mul-result
 mul-result c = search needs
 
--- src/lib.rt:218:5
 add-result : tie.Need-add-result
 add-result c = search needs
 
--- src/lib.rt:209:1
 returns-3 : tie.Need-returns-3
 unfolding complete
 returns-3 c = rw (le-leb _ _ (c .before .before .before .before .if1 .left), le-leb _ _ (c .before .before .if2 .left), ← c .wide .ensures .0)

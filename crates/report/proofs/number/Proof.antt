@@ -1,45 +1,30 @@
-use Rattle.report.proofs.Buffer.{then-as, same}
-use mathlib.Core.List.{List, _++_}
-use Prim.Native.Nat.{ℕ}
-use Rattle.report.specs.Buffer.{Wrote}
-use Rattle.report.proofs.Digits.{at-most-20}
-use mathlib.Core.Path.{subst, sym, _∙_}
+-- `report::number` meets its contract: the fewest digits are the decimal ones, and at most 20 (proofs/Digits.antt). Assumes nothing.
+use mathlib.Core.Path.{_∙_}
 use native.Mathlib.Omega.{arith}
-use Rattle.report.proofs.Buffer.{then, same}
-use Rattle.report.proofs.Digits.{of-fewest}
 use borrow.Author.Needs.{needs}
+use Rattle.report.proofs.Buffer.{then-as, same}
+use Rattle.report.proofs.Digits.{at-most-20, of-fewest}
 use Rattle.report.proofs.number.Statement.{statement}
 use Rattle.report.proofs.number.Tie as tie
-use Rattle.report.proofs.number.Reads as reads
-use Rattle.report.proofs.number.Lts as lts
-use Rattle.io.proofs.decimal.Reads as decimal-reads
-use Rattle.report.proofs.put.Reads as put-reads
 
--- src/lib.rt:114:9
 decimal-requires : tie.Need-decimal-requires
 decimal-requires c κs = search needs
 
--- src/lib.rt:115:9
 put-requires : tie.Need-put-requires
 put-requires c κs = search needs
 
--- src/lib.rt:116:21
 array-share-prefix-digits : tie.Need-array-share-prefix-digits
 array-share-prefix-digits c = search needs
 
--- src/lib.rt:116:21
 slice-aggregate-put : tie.Need-slice-aggregate-put
 slice-aggregate-put c = search needs
 
--- src/lib.rt:116:5
 put-requires-2 : tie.Need-put-requires-2
 put-requires-2 c κs = let most = at-most-20 (c .before .before .before .before .before .before .before .before .before .before .args .n) _ (c .before .before .before .before .before .before .decimal .ensures .1 .0) (omega (arith, c .before .before .before .before .before .before .before .before .before .before .fits .n)) in let kept = same (c .before .before .before .before .put .ensures) in omega (arith, most, kept, c .before .before .before .before .put .ensures .ends, c .before .before .before .before .before .before .decimal .ensures .0 .1, c .before .before .before .before .before .before .before .before .before .before .pre)
 
--- src/lib.rt:108:1
 same-length : tie.Need-same-length
 same-length c = search needs
 
--- src/lib.rt:108:1
 returns : tie.Need-returns
 returns c = let most = at-most-20 (c .before .before .before .before .before .before .before .before .before .before .before .before .before .args .n) _ (c .before .before .before .before .before .before .before .before .before .decimal .ensures .1 .0) (omega (arith, c .before .before .before .before .before .before .before .before .before .before .before .before .before .fits .n)) in let text = c .before .before .before .before .before .before .before .before .before .decimal .ensures .1 .1 ∙ of-fewest _ _ 20 (c .before .before .before .before .before .before .before .before .before .decimal .ensures .1 .0) most in (then-as _ (c .before .before .before .before .before .before .before .put .ensures) (c .before .before .put2 .ensures) text, omega (arith, most, c .before .before .before .before .before .before .before .put .ensures .ends, c .before .before .put2 .ensures .ends, c .before .before .before .before .before .before .before .before .before .decimal .ensures .0 .1))
 

@@ -1,23 +1,17 @@
-use mathlib.Core.Path.{sym}
+-- `report::or_house` meets its contract. Assumes nothing.
 use borrow.Author.Tests.{eq-eqb, ne-eqb}
-use Rattle.report.specs.Input.{orHouse}
 use borrow.Author.Needs.{needs}
+use Rattle.report.specs.Input.{orHouse}
 use Rattle.report.proofs.or_house.Statement.{statement}
 use Rattle.report.proofs.or_house.Tie as tie
-use Rattle.report.proofs.or_house.Reads as reads
-use Rattle.report.proofs.or_house.Lts as lts
-use Rattle.report.proofs.wide.Reads as wide-reads
 
--- src/lib.rt:81:36
 wide-requires : tie.Need-wide-requires
 wide-requires c κs = search needs
 
--- src/lib.rt:78:1
 returns : tie.Need-returns
 unfolding orHouse
 returns c = rw (eq-eqb _ _ (c .if1 .taken))
 
--- src/lib.rt:78:1
 returns-2 : tie.Need-returns-2
 unfolding orHouse
 returns-2 c = rw (ne-eqb _ _ (c .before .if1 .left)) (c .wide .ensures .0)

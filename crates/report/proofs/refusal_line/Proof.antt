@@ -1,55 +1,41 @@
+-- `report::refusal_line` meets its contract, text after text. Assumes nothing.
 use native.Mathlib.Omega.{arith}
+use borrow.Author.Needs.{needs}
 use Rattle.report.specs.Lines.{refusalLine}
 use Rattle.report.proofs.Buffer.{then}
-use borrow.Author.Needs.{needs}
 use Rattle.report.proofs.refusal_line.Statement.{statement}
 use Rattle.report.proofs.refusal_line.Tie as tie
-use Rattle.report.proofs.refusal_line.Reads as reads
-use Rattle.report.proofs.refusal_line.Lts as lts
-use Rattle.report.proofs.number.Reads as number-reads
-use Rattle.report.proofs.put.Reads as put-reads
 
--- src/lib.rt:124:31
 slice-aggregate-number : tie.Need-slice-aggregate-number
 slice-aggregate-number c = search needs
 
--- src/lib.rt:124:44
 cast-number : tie.Need-cast-number
 cast-number c = search needs
 
--- src/lib.rt:124:9
 number-requires : tie.Need-number-requires
 number-requires c κs = search needs
 
--- src/lib.rt:125:32
 slice-aggregate-number-2 : tie.Need-slice-aggregate-number-2
 slice-aggregate-number-2 c = search needs
 
--- src/lib.rt:125:9
 number-requires-2 : tie.Need-number-requires-2
 number-requires-2 c κs = search needs
 
--- src/lib.rt:126:34
 slice-aggregate-number-3 : tie.Need-slice-aggregate-number-3
 slice-aggregate-number-3 c = search needs
 
--- src/lib.rt:126:9
 number-requires-3 : tie.Need-number-requires-3
 number-requires-3 c κs = search needs
 
--- src/lib.rt:127:21
 slice-aggregate-put : tie.Need-slice-aggregate-put
 slice-aggregate-put c = search needs
 
--- src/lib.rt:127:5
 put-requires : tie.Need-put-requires
 put-requires c κs = search needs
 
--- src/lib.rt:119:1
 same-length : tie.Need-same-length
 same-length c = search needs
 
--- src/lib.rt:119:1
 returns : tie.Need-returns
 unfolding refusalLine
 returns c = (then (c .before .before .before .before .before .before .before .before .before .before .before .before .before .before .before .before .before .number .ensures .0) (then (c .before .before .before .before .before .before .before .before .before .before .before .before .number2 .ensures .0) (then (c .before .before .before .before .before .before .before .number3 .ensures .0) (c .before .before .put .ensures))), omega (arith, c .before .before .before .before .before .before .before .before .before .before .before .before .before .before .before .before .before .number .ensures .1, c .before .before .before .before .before .before .before .before .before .before .before .before .number2 .ensures .1, c .before .before .before .before .before .before .before .number3 .ensures .1, c .before .before .put .ensures .ends))

@@ -1,108 +1,78 @@
+-- `report::report_words` meets its contract: the job is the one that the words say, and its three answers are told (proofs/Telling.antt). Assumes nothing.
 use mathlib.Core.Path.{sym, ap, _∙_}
 use lib.ListN.{getD, take, drop}
 use native.Mathlib.Omega.{arith}
-use mathlib.Core.Path.{sym}
 use lib.Seq.{length-take-le}
+use borrow.Author.Needs.{needs}
 use Rattle.report.specs.Input.{jobOf, pairsOf}
 use Rattle.report.proofs.Words.{length-pairs}
 use Rattle.report.proofs.Telling.{lacks, passes, has, front-of, from-on, turned-away, told}
-use borrow.Author.Needs.{needs}
 use Rattle.report.proofs.report_words.Statement.{statement}
 use Rattle.report.proofs.report_words.Tie as tie
-use Rattle.report.proofs.report_words.Reads as reads
-use Rattle.report.proofs.report_words.Lts as lts
-use Rattle.machine.proofs.all_three.Reads as all-three-reads
-use Rattle.report.proofs.has_job.Reads as has-job-reads
-use Rattle.report.proofs.load.Reads as load-reads
-use Rattle.report.proofs.settings.Reads as settings-reads
-use Rattle.report.proofs.tell.Reads as tell-reads
-use Rattle.report.proofs.unreadable.Reads as unreadable-reads
 
--- src/lib.rt:249:9
 has-job-requires : tie.Need-has-job-requires
 has-job-requires c κs = search needs
 
--- src/lib.rt:250:9
 unreadable-requires : tie.Need-unreadable-requires
 unreadable-requires c κs = search needs
 
--- src/lib.rt:250:9
 same-length : tie.Need-same-length
 same-length c = search needs
 
--- src/lib.rt:250:9
 returns : tie.Need-returns
 returns c = turned-away (c .before .before .before .before .before .before .before .before .before .args .words .now) (c .before .before .before .before .before .before .before .before .before .args .workspace .now) (c .before .before .before .before .before .before .before .before .before .args .out .now) _ _ (lacks (c .before .before .before .before .before .before .before .before .before .args .words .now) _ (c .before .before .before .before .before .has-job .ensures) (c .before .before .before .before .if1 .taken)) (c .before .before .unreadable .ensures)
 
--- src/lib.rt:252:17
 shared-slice-read-count : tie.Need-shared-slice-read-count
 shared-slice-read-count c = let h = has (c .before .before .before .before .before .before .args .words .now) _ (c .before .before .has-job .ensures) (c .before .if1 .left) in omega (arith, h .four)
 
--- src/lib.rt:252:17
 cast-count : tie.Need-cast-count
 cast-count c = let h = has (c .before .before .before .before .before .before .args .words .now) _ (c .before .before .has-job .ensures) (c .before .if1 .left) in omega (arith, h .few)
 
--- src/lib.rt:253:20
 mul-from : tie.Need-mul-from
 mul-from c = let h = has (c .before .before .before .before .before .before .args .words .now) _ (c .before .before .has-job .ensures) (c .before .if1 .left) in omega (arith, h .few)
 
--- src/lib.rt:253:16
 add-from : tie.Need-add-from
 add-from c = let h = has (c .before .before .before .before .before .before .args .words .now) _ (c .before .before .has-job .ensures) (c .before .if1 .left) in omega (arith, h .few)
 
--- src/lib.rt:255:17
 slice-aggregate-load : tie.Need-slice-aggregate-load
 slice-aggregate-load c = search needs
 
--- src/lib.rt:255:5
 load-requires : tie.Need-load-requires
 load-requires c κs = let h = has (c .before .before .before .before .before .before .before .args .words .now) _ (c .before .before .before .has-job .ensures) (c .before .before .if1 .left) in (h .room, h .few)
 
--- src/lib.rt:256:9
 settings-requires : tie.Need-settings-requires
 settings-requires c κs = let h = has (c .before .before .before .before .before .before .before .before .before .args .words .now) _ (c .before .before .before .before .before .has-job .ensures) (c .before .before .before .before .if1 .left) in omega (arith, h .four)
 
--- src/lib.rt:258:9
 mul-all-three : tie.Need-mul-all-three
 mul-all-three c = let h = has (c .before .before .before .before .before .before .before .before .before .before .args .words .now) _ (c .before .before .before .before .before .before .has-job .ensures) (c .before .before .before .before .before .if1 .left) in omega (arith, h .few)
 
--- src/lib.rt:258:9
 sub-all-three : tie.Need-sub-all-three
 sub-all-three c = let h = has (c .before .before .before .before .before .before .before .before .before .before .args .words .now) _ (c .before .before .before .before .before .before .has-job .ensures) (c .before .before .before .before .before .if1 .left) in h .room
 
--- src/lib.rt:258:9
 part-all-three-start : tie.Need-part-all-three-start
 part-all-three-start c = let h = has (c .before .before .before .before .before .before .before .before .before .before .args .words .now) _ (c .before .before .before .before .before .before .has-job .ensures) (c .before .before .before .before .before .if1 .left) in omega (arith, h .room)
 
--- src/lib.rt:258:9
 part-all-three-end : tie.Need-part-all-three-end
 part-all-three-end c = search needs
 
--- src/lib.rt:259:9
 array-share-prefix-arguments : tie.Need-array-share-prefix-arguments
 array-share-prefix-arguments c = let h = has (c .before .before .before .before .before .before .before .before .before .before .before .args .words .now) _ (c .before .before .before .before .before .before .before .has-job .ensures) (c .before .before .before .before .before .before .if1 .left) in omega (arith, h .few, c .before .before .before .load .kept .1 .0)
 
--- src/lib.rt:259:9
 slice-aggregate-all-three : tie.Need-slice-aggregate-all-three
 slice-aggregate-all-three c = let h = has (c .before .before .before .before .before .before .before .before .before .before .before .before .args .words .now) _ (c .before .before .before .before .before .before .before .before .has-job .ensures) (c .before .before .before .before .before .before .before .if1 .left) in sym (length-take-le _ _ (omega (arith, h .few, c .before .before .before .before .load .kept .1 .0)))
 
--- src/lib.rt:257:9
 all-three-requires : tie.Need-all-three-requires
 all-three-requires c κs = search needs
 
--- src/lib.rt:265:5
 tell-requires : tie.Need-tell-requires
 tell-requires c κs = search needs
 
--- src/lib.rt:245:1
 same-length-2 : tie.Need-same-length-2
 same-length-2 c = search needs
 
--- src/lib.rt:245:1
 same-length-3 : tie.Need-same-length-3
 same-length-3 c = search needs
 
--- src/lib.rt:245:1
 returns-2 : tie.Need-returns-2
 unfolding jobOf
 returns-2 c = let w = c .before .before .before .before .before .before .before .before .before .before .before .before .before .before .before .before .before .before .before .before .args .words .now in

@@ -1,42 +1,31 @@
-use mathlib.Core.Path.{_≡_, refl, _∙_, ap}
-use Rattle.report.specs.Input.{jobOf, orHouse}
+-- `report::settings` meets its contract: each is its word, or the house default. Assumes nothing.
+use mathlib.Core.Path.{_∙_, ap}
 use borrow.Author.Needs.{needs}
+use Rattle.report.specs.Input.{jobOf, orHouse}
 use Rattle.report.proofs.settings.Statement.{statement}
 use Rattle.report.proofs.settings.Tie as tie
-use Rattle.report.proofs.settings.Reads as reads
-use Rattle.report.proofs.settings.Lts as lts
-use Rattle.language.proofs.Settings.house.Reads as house-reads
-use Rattle.report.proofs.or_house.Reads as or-house-reads
 
--- src/lib.rt:89:9
 house-requires : tie.Need-house-requires
 house-requires c κs = search needs
 
--- src/lib.rt:92:29
 shared-slice-read-or-house : tie.Need-shared-slice-read-or-house
 shared-slice-read-or-house c = search needs
 
--- src/lib.rt:92:20
 or-house-requires : tie.Need-or-house-requires
 or-house-requires c κs = search needs
 
--- src/lib.rt:93:26
 shared-slice-read-or-house-2 : tie.Need-shared-slice-read-or-house-2
 shared-slice-read-or-house-2 c = search needs
 
--- src/lib.rt:93:17
 or-house-requires-2 : tie.Need-or-house-requires-2
 or-house-requires-2 c κs = search needs
 
--- src/lib.rt:94:23
 shared-slice-read-or-house-3 : tie.Need-shared-slice-read-or-house-3
 shared-slice-read-or-house-3 c = search needs
 
--- src/lib.rt:94:14
 or-house-requires-3 : tie.Need-or-house-requires-3
 or-house-requires-3 c κs = search needs
 
--- src/lib.rt:85:1
 returns : tie.Need-returns
 unfolding jobOf
 returns c = (c .before .before .before .before .or-house .ensures ∙ ap (orHouse _) (c .before .before .before .before .before .before .before .house .ensures .fuel), c .before .before .or-house2 .ensures ∙ ap (orHouse _) (c .before .before .before .before .before .before .before .house .ensures .period), c .or-house3 .ensures ∙ ap (orHouse _) (c .before .before .before .before .before .before .before .house .ensures .tau))

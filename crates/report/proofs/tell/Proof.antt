@@ -1,68 +1,50 @@
+-- `report::tell` meets its contract: one line where the input is refused, else line after line (proofs/Telling.antt). Assumes nothing.
 use mathlib.Core.Logic.{⊎-elim}
-use mathlib.Core.Path.{subst}
-use Rattle.report.proofs.Telling.{unrefused}
 use native.Mathlib.Omega.{arith}
-use Rattle.report.specs.Lines.{reportLines}
-use Rattle.report.proofs.Buffer.{then, same}
 use borrow.Author.Needs.{needs}
+use Rattle.report.proofs.Telling.{unrefused}
+use Rattle.report.specs.Lines.{reportLines}
+use Rattle.report.proofs.Buffer.{then}
 use Rattle.report.proofs.tell.Statement.{statement}
 use Rattle.report.proofs.tell.Tie as tie
-use Rattle.report.proofs.tell.Reads as reads
-use Rattle.report.proofs.tell.Lts as lts
-use Rattle.report.proofs.breadth_line.Reads as breadth-line-reads
-use Rattle.report.proofs.line.Reads as line-reads
-use Rattle.report.proofs.refusal_line.Reads as refusal-line-reads
 
--- src/lib.rt:199:28
 enum-known-sequential : tie.Need-enum-known-sequential
 enum-known-sequential c = search needs
 
--- src/lib.rt:200:9
 refusal-line-requires : tie.Need-refusal-line-requires
 refusal-line-requires c κs = search needs
 
--- src/lib.rt:200:9
 same-length : tie.Need-same-length
 same-length c = search needs
 
--- src/lib.rt:200:9
 returns : tie.Need-returns
 unfolding reportLines
 returns c = rw (c .before .before .before .before .before .sequential .given .1) (c .before .before .refusal-line .ensures .0)
 
--- src/lib.rt:202:28
 slice-aggregate-line : tie.Need-slice-aggregate-line
 slice-aggregate-line c = search needs
 
--- src/lib.rt:202:9
 line-requires : tie.Need-line-requires
 line-requires c κs = search needs
 
--- src/lib.rt:203:30
 slice-aggregate-line-2 : tie.Need-slice-aggregate-line-2
 slice-aggregate-line-2 c = search needs
 
--- src/lib.rt:203:9
 line-requires-2 : tie.Need-line-requires-2
 line-requires-2 c κs = search needs
 
--- src/lib.rt:204:32
 slice-aggregate-line-3 : tie.Need-slice-aggregate-line-3
 slice-aggregate-line-3 c = search needs
 
--- src/lib.rt:204:9
 line-requires-3 : tie.Need-line-requires-3
 line-requires-3 c κs = search needs
 
--- src/lib.rt:205:5
 breadth-line-requires : tie.Need-breadth-line-requires
 breadth-line-requires c κs = search needs
 
--- src/lib.rt:192:1
 same-length-2 : tie.Need-same-length-2
 same-length-2 c = search needs
 
--- src/lib.rt:192:1
 returns-2 : tie.Need-returns-2
 returns-2 c = rw (← unrefused (c .before .before .before .before .before .before .before .before .before .before .before .before .before .before .before .before .before .before .before .before .before .args .answers .sequential) (c .before .before .before .before .before .before .before .before .before .before .before .before .before .before .before .before .before .before .before .before .before .args .answers .parallel) (c .before .before .before .before .before .before .before .before .before .before .before .before .before .before .before .before .before .before .before .before .before .args .answers .heartbeat) (λ r e. ⊎-elim (λ x. omega arith) (λ x. omega arith) (rw e at (c .before .before .before .before .before .before .before .before .before .before .before .before .before .before .before .before .before .before .before .match .keys2)))) (then (c .before .before .before .before .before .before .before .before .before .before .before .before .before .before .before .before .line .ensures .0) (then (c .before .before .before .before .before .before .before .before .before .before .before .line2 .ensures .0) (then (c .before .before .before .before .before .before .line3 .ensures .0) (c .before .before .breadth-line .ensures .0))))
 
