@@ -11,7 +11,7 @@ use Rattle.language.specs.Language.{result, operated, call, next, gathered, arr
 use Rattle.language.specs.Checks.{rangeOf, argumentsOf, workspaceOf, settingsOf, checkedOf}
 use Rattle.language.specs.Answers.{toldBy, afterCheck, runOf, answerOf}
 use Rattle.report.specs.Input.{wordsOf, pairsOf, orHouse, jobOf, complete, whole}
-use Rattle.report.specs.Lines.{digitsIn, refusalLine, valueLine, stopLine, answerLine, breadthLine, reportLines}
+use Rattle.lines.specs.Lines.{digitsIn, refusalLine, valueLine, stopLine, answerLine, breadthLine, reportLines}
 use Rattle.report.specs.Report.{toldOf, wordsReport, reportOf}
 use Rattle.report.specs.Examples.{bytesOf, onA, rows, reports, told, ExampleReports}
 

@@ -1,5 +1,4 @@
 -- What the functions that tell a report have to show.
---     unrefused, no-value     the lines where the first machine is not refused, and where the parallel one has no value
 --     Complete, has, lacks    an input's words, by the test of them
 --     turned-away, told       the report on words that are no job, and on a job
 --     cramped                 a buffer without room for a report
@@ -25,24 +24,10 @@ use Rattle.language.proofs.Claim.{claim}
 use Rattle.machine.specs.declared.Answers.{Answers}
 use Rattle.machine.specs.AllThree.{AllThree}
 use Rattle.report.specs.Input.{countOf, wordsOf, jobOf, complete, whole}
-use Rattle.report.specs.Lines.{ascii, breadthLine, machineLines, reportLines}
-use Rattle.report.specs.Buffer.{Wrote}
+use Rattle.lines.specs.Lines.{ascii, breadthLine, machineLines, reportLines}
+use Rattle.lines.specs.Buffer.{Wrote}
 use Rattle.report.specs.Report.{noJob, DemandThreeOf, toldOf, wordsReport, wordsLeave, reportOf, leftAfter, WordsReported, Reported}
-use Rattle.report.proofs.Buffer.{same}
-
--- where the first machine does not refuse, its line is told with the others
-pub unrefused : (s p h : Answer) → ((r : Refusal) → s ≡ Refused r → ⊥) → machineLines s p h ≡ reportLines s p h
-unfolding reportLines
-unrefused (Value v counts) p h not = refl
-unrefused (Stopped s) p h not = refl
-unrefused (Refused r) p h not = absurd (not r refl)
-
--- where there is no value, there is no breadth
-pub no-value : (p : Answer) → ((v : ℕ) (counts : Counts) → p ≡ Value v counts → ⊥) → ascii "breadth none\n" ≡ breadthLine p
-unfolding breadthLine
-no-value (Value v counts) not = absurd (not v counts refl)
-no-value (Stopped s) not = refl
-no-value (Refused r) not = refl
+use Rattle.lines.proofs.Buffer.{same}
 
 -- what a complete input has
 pub record Complete (w : List ℕ) : Type 0 where

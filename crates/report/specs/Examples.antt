@@ -5,7 +5,7 @@ use Prim.Native.String.{String}
 use mathlib.Core.Path.{_≡_}
 use mathlib.Core.List.{List, [], _∷_, _++_}
 use Rattle.language.specs.Settled.{tableA}
-use Rattle.report.specs.Lines.{ascii}
+use Rattle.lines.specs.Lines.{ascii}
 use Rattle.report.specs.Report.{reportOf}
 
 -- An input's bytes, and the report on it.

@@ -1,6 +1,4 @@
--- What a reader of the report must believe: what an input says, the lines, and what a call writes and leaves.
+-- What a reader of the report must believe: what an input says, and what a call writes and leaves; the lines are those of crate `lines`.
 pub mod Input
-pub mod Lines
-pub mod Buffer
 pub mod Report
 pub mod Examples

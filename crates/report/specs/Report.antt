@@ -10,8 +10,8 @@ use Rattle.language.specs.Answers.{Machine, sequentialOf, parallelOf, heartbeat
 use Rattle.language.specs.Claim.{DemandThree}
 use Rattle.machine.specs.Workspace.{leftBy}
 use Rattle.report.specs.Input.{Job, wordsOf, jobOf, complete, whole}
-use Rattle.report.specs.Buffer.{Wrote}
-use Rattle.report.specs.Lines.{refusalLine, reportLines}
+use Rattle.lines.specs.Buffer.{Wrote}
+use Rattle.lines.specs.Lines.{refusalLine, reportLines}
 
 -- a machine's answer to a job, with a workspace of so many words
 abbrev pub answerTo : Machine → Job → ℕ → Answer

@@ -1,13 +1,16 @@
--- `report::value_line` meets its contract, text after text. Assumes nothing.
+-- `lines::stop_line` meets its contract, text after text. Assumes nothing.
 use native.Mathlib.Omega.{arith}
 use borrow.Author.Needs.{needs}
-use Rattle.report.specs.Lines.{valueLine}
-use Rattle.report.proofs.Buffer.{then}
-use Rattle.report.proofs.value_line.Statement.{statement}
-use Rattle.report.proofs.value_line.Tie as tie
+use Rattle.lines.specs.Lines.{stopLine}
+use Rattle.lines.proofs.Buffer.{then}
+use Rattle.lines.proofs.stop_line.Statement.{statement}
+use Rattle.lines.proofs.stop_line.Tie as tie
 
 slice-aggregate-number : tie.Need-slice-aggregate-number
 slice-aggregate-number c = search needs
+
+cast-number : tie.Need-cast-number
+cast-number c = search needs
 
 number-requires : tie.Need-number-requires
 number-requires c κs = search needs
@@ -40,14 +43,15 @@ same-length : tie.Need-same-length
 same-length c = search needs
 
 returns : tie.Need-returns
-unfolding valueLine
+unfolding stopLine
 returns c = (then (c .before .before .before .before .before .before .before .before .before .before .before .before .before .before .before .before .before .before .before .before .before .before .number .ensures .0) (then (c .before .before .before .before .before .before .before .before .before .before .before .before .before .before .before .before .before .number2 .ensures .0) (then (c .before .before .before .before .before .before .before .before .before .before .before .before .number3 .ensures .0) (then (c .before .before .before .before .before .before .before .number4 .ensures .0) (c .before .before .put .ensures)))), omega (arith, c .before .before .before .before .before .before .before .before .before .before .before .before .before .before .before .before .before .before .before .before .before .before .number .ensures .1, c .before .before .before .before .before .before .before .before .before .before .before .before .before .before .before .before .before .number2 .ensures .1, c .before .before .before .before .before .before .before .before .before .before .before .before .number3 .ensures .1, c .before .before .before .before .before .before .before .number4 .ensures .1, c .before .before .put .ensures .ends))
 
-pub value-line-spec : {M : Type 1} → statement M
-value-line-spec =
+pub stop-line-spec : {M : Type 1} → statement M
+stop-line-spec =
     tie.close
     (tie.spec
     slice-aggregate-number
+    cast-number
     number-requires
     slice-aggregate-number-2
     number-requires-2

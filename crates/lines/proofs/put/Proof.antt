@@ -1,8 +1,8 @@
--- `report::put` meets its contract: a copy to the front of what lies from `at` on (proofs/Buffer.antt). Assumes nothing.
+-- `lines::put` meets its contract: a copy to the front of what lies from `at` on (proofs/Buffer.antt). Assumes nothing.
 use borrow.Author.Needs.{needs}
-use Rattle.report.proofs.Buffer.{copied}
-use Rattle.report.proofs.put.Statement.{statement}
-use Rattle.report.proofs.put.Tie as tie
+use Rattle.lines.proofs.Buffer.{copied}
+use Rattle.lines.proofs.put.Statement.{statement}
+use Rattle.lines.proofs.put.Tie as tie
 
 sub-copy : tie.Need-sub-copy
 sub-copy c = search needs

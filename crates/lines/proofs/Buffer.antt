@@ -9,7 +9,7 @@ use mathlib.Core.List.{List, [], _++_, append-assoc, append-nil}
 use native.Mathlib.Omega.{arith}
 use lib.ListN.{length, take, drop, length-append, length-drop, drop-of-length-le}
 use lib.Seq.{take-at, take-all, take-length, drop-append-add, drop-drop, length-take-le}
-use Rattle.report.specs.Buffer.{Wrote}
+use Rattle.lines.specs.Buffer.{Wrote}
 
 module _ {d : List ℕ} {at : ℕ} {text d₁ : List ℕ} {r : ℕ} (h : Wrote d at text d₁ r) where
   here : at ≤ length d

@@ -1,16 +1,13 @@
--- `report::stop_line` meets its contract, text after text. Assumes nothing.
+-- `lines::value_line` meets its contract, text after text. Assumes nothing.
 use native.Mathlib.Omega.{arith}
 use borrow.Author.Needs.{needs}
-use Rattle.report.specs.Lines.{stopLine}
-use Rattle.report.proofs.Buffer.{then}
-use Rattle.report.proofs.stop_line.Statement.{statement}
-use Rattle.report.proofs.stop_line.Tie as tie
+use Rattle.lines.specs.Lines.{valueLine}
+use Rattle.lines.proofs.Buffer.{then}
+use Rattle.lines.proofs.value_line.Statement.{statement}
+use Rattle.lines.proofs.value_line.Tie as tie
 
 slice-aggregate-number : tie.Need-slice-aggregate-number
 slice-aggregate-number c = search needs
-
-cast-number : tie.Need-cast-number
-cast-number c = search needs
 
 number-requires : tie.Need-number-requires
 number-requires c κs = search needs
@@ -43,15 +40,14 @@ same-length : tie.Need-same-length
 same-length c = search needs
 
 returns : tie.Need-returns
-unfolding stopLine
+unfolding valueLine
 returns c = (then (c .before .before .before .before .before .before .before .before .before .before .before .before .before .before .before .before .before .before .before .before .before .before .number .ensures .0) (then (c .before .before .before .before .before .before .before .before .before .before .before .before .before .before .before .before .before .number2 .ensures .0) (then (c .before .before .before .before .before .before .before .before .before .before .before .before .number3 .ensures .0) (then (c .before .before .before .before .before .before .before .number4 .ensures .0) (c .before .before .put .ensures)))), omega (arith, c .before .before .before .before .before .before .before .before .before .before .before .before .before .before .before .before .before .before .before .before .before .before .number .ensures .1, c .before .before .before .before .before .before .before .before .before .before .before .before .before .before .before .before .before .number2 .ensures .1, c .before .before .before .before .before .before .before .before .before .before .before .before .number3 .ensures .1, c .before .before .before .before .before .before .before .number4 .ensures .1, c .before .before .put .ensures .ends))
 
-pub stop-line-spec : {M : Type 1} → statement M
-stop-line-spec =
+pub value-line-spec : {M : Type 1} → statement M
+value-line-spec =
     tie.close
     (tie.spec
     slice-aggregate-number
-    cast-number
     number-requires
     slice-aggregate-number-2
     number-requires-2

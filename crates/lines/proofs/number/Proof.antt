@@ -1,11 +1,11 @@
--- `report::number` meets its contract: the fewest digits are the decimal ones, and at most 20 (proofs/Digits.antt). Assumes nothing.
+-- `lines::number` meets its contract: the fewest digits are the decimal ones, and at most 20 (proofs/Digits.antt). Assumes nothing.
 use mathlib.Core.Path.{_∙_}
 use native.Mathlib.Omega.{arith}
 use borrow.Author.Needs.{needs}
-use Rattle.report.proofs.Buffer.{then-as, same}
-use Rattle.report.proofs.Digits.{at-most-20, of-fewest}
-use Rattle.report.proofs.number.Statement.{statement}
-use Rattle.report.proofs.number.Tie as tie
+use Rattle.lines.proofs.Buffer.{then-as, same}
+use Rattle.lines.proofs.Digits.{at-most-20, of-fewest}
+use Rattle.lines.proofs.number.Statement.{statement}
+use Rattle.lines.proofs.number.Tie as tie
 
 decimal-requires : tie.Need-decimal-requires
 decimal-requires c κs = search needs

@@ -1,10 +1,10 @@
--- `report::line` meets its contract: the name, and the line of the answer's case. Assumes nothing.
+-- `lines::line` meets its contract: the name, and the line of the answer's case. Assumes nothing.
 use native.Mathlib.Omega.{arith}
 use borrow.Author.Needs.{needs}
-use Rattle.report.specs.Lines.{answerLine}
-use Rattle.report.proofs.Buffer.{then}
-use Rattle.report.proofs.line.Statement.{statement}
-use Rattle.report.proofs.line.Tie as tie
+use Rattle.lines.specs.Lines.{answerLine}
+use Rattle.lines.proofs.Buffer.{then}
+use Rattle.lines.proofs.line.Statement.{statement}
+use Rattle.lines.proofs.line.Tie as tie
 
 put-requires : tie.Need-put-requires
 put-requires c κs = search needs

@@ -1,12 +1,12 @@
--- `report::breadth_line` meets its contract: the quotient and a newline, or `none` where there is no value (proofs/Telling.antt). Assumes nothing.
+-- `lines::breadth_line` meets its contract: the quotient and a newline, or `none` where there is no value (proofs/Cases.antt). Assumes nothing.
 use mathlib.Core.Logic.{⊎-elim}
 use native.Mathlib.Omega.{arith}
 use borrow.Author.Needs.{needs}
-use Rattle.report.proofs.Telling.{no-value}
-use Rattle.report.specs.Lines.{breadthLine}
-use Rattle.report.proofs.Buffer.{then}
-use Rattle.report.proofs.breadth_line.Statement.{statement}
-use Rattle.report.proofs.breadth_line.Tie as tie
+use Rattle.lines.proofs.Cases.{no-value}
+use Rattle.lines.specs.Lines.{breadthLine}
+use Rattle.lines.proofs.Buffer.{then}
+use Rattle.lines.proofs.breadth_line.Statement.{statement}
+use Rattle.lines.proofs.breadth_line.Tie as tie
 
 enum-known-parallel : tie.Need-enum-known-parallel
 enum-known-parallel c = search needs

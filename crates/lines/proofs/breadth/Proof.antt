@@ -1,8 +1,8 @@
--- `report::breadth` meets its contract: the quotient by 0 is 0. Assumes nothing.
+-- `lines::breadth` meets its contract: the quotient by 0 is 0. Assumes nothing.
 use native.Mathlib.Nat.{div-zero}
 use borrow.Author.Needs.{needs}
-use Rattle.report.proofs.breadth.Statement.{statement}
-use Rattle.report.proofs.breadth.Tie as tie
+use Rattle.lines.proofs.breadth.Statement.{statement}
+use Rattle.lines.proofs.breadth.Tie as tie
 
 div-result : tie.Need-div-result
 div-result c = search needs

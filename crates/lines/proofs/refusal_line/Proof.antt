@@ -1,10 +1,10 @@
--- `report::refusal_line` meets its contract, text after text. Assumes nothing.
+-- `lines::refusal_line` meets its contract, text after text. Assumes nothing.
 use native.Mathlib.Omega.{arith}
 use borrow.Author.Needs.{needs}
-use Rattle.report.specs.Lines.{refusalLine}
-use Rattle.report.proofs.Buffer.{then}
-use Rattle.report.proofs.refusal_line.Statement.{statement}
-use Rattle.report.proofs.refusal_line.Tie as tie
+use Rattle.lines.specs.Lines.{refusalLine}
+use Rattle.lines.proofs.Buffer.{then}
+use Rattle.lines.proofs.refusal_line.Statement.{statement}
+use Rattle.lines.proofs.refusal_line.Tie as tie
 
 slice-aggregate-number : tie.Need-slice-aggregate-number
 slice-aggregate-number c = search needs

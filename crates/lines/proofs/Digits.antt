@@ -7,7 +7,7 @@ use native.Mathlib.Nat.{pow-suc, one-le-pow, pow-le-pow-right}
 use native.Mathlib.Decide.{decLe}
 use borrow.Author.Tests.{lt-ltb, le-ltb}
 use Rattle.io.specs.Digits.{digits, Fewest}
-use Rattle.report.specs.Lines.{digitsIn}
+use Rattle.lines.specs.Lines.{digitsIn}
 
 less-one : (r : ℕ) → suc r - 1 ≡ r
 less-one r = omega arith

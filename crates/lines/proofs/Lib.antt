@@ -1,0 +1,4 @@
+-- Laws about texts that are written, which this crate's proofs cite and other crates' may.
+pub mod Buffer
+mod Digits
+mod Cases

@@ -1,0 +1,122 @@
+// The lines of a report: what three machines answered, written to a lent buffer as text.
+//
+// Each function writes one text from a byte on, and answers where it ends; what it writes is defined in specs/Lines.antt.
+
+use language::Answer;
+use language::Counts;
+use language::Stop;
+use table::Refusal;
+ghost use mathlib.Core.Path.{_≡_};
+ghost use mathlib.Core.List.{_++_};
+ghost use Prim.Native.Nat.{_+_, _/_, _≤_};
+ghost use lib.ListN.{length};
+ghost use Rattle.lines.specs.Lines.{decimal, refusalLine, valueLine, stopLine, answerLine, breadthLine, reportLines};
+ghost use Rattle.lines.specs.Buffer.{Wrote};
+
+// Writes a text from byte `at` on, and answers where it ends.
+fn put(out: &mut [u8], at: usize, text: &[u8]) -> usize
+    requires { ⌜ at + length (now text) ≤ length (now out) ⌝ }
+    ensures { λ r. ⌜ Wrote (now (out .entry)) at (now (text .entry)) (now (out .exit)) r ⌝ }
+{
+    bytes::copy(text, &mut out[at..]);
+    at + text.len()
+}
+
+// Writes a word and a number after it.
+fn number(out: &mut [u8], at: usize, tag: &[u8], n: u64) -> usize
+    requires { ⌜ at + length (now tag) + 20 ≤ length (now out) ⌝ }
+    ensures wrote { λ r. ⌜ Wrote (now (out .entry)) at (now (tag .entry) ++ decimal n) (now (out .exit)) r ⌝ }
+    ensures short { λ r. ⌜ r ≤ at + length (now (tag .entry)) + 20 ⌝ }
+{
+    let mut digits = [0u8; 20];
+    let k = io::decimal(n, &mut digits);
+    let after = put(out, at, tag);
+    put(out, after, &digits[..k])
+}
+
+// The line of a refusal.
+pub fn refusal_line(out: &mut [u8], at: usize, refusal: Refusal) -> usize
+    requires { ⌜ (at + 85 ≤ length (now out)) ⌝ }
+    ensures wrote { λ r. ⌜ Wrote (now (out .entry)) at (refusalLine refusal) (now (out .exit)) r ⌝ }
+    ensures short { λ r. ⌜ r ≤ at + 85 ⌝ }
+{
+    let one = number(out, at, b"refused ", refusal.number as u64);
+    let two = number(out, one, b" function ", refusal.function as u64);
+    let three = number(out, two, b" node ", refusal.node as u64);
+    put(out, three, b"\n")
+}
+
+fn value_line(out: &mut [u8], at: usize, v: u64, counts: Counts) -> usize
+    requires { ⌜ (at + 107 ≤ length (now out)) ⌝ }
+    ensures wrote { λ r. ⌜ Wrote (now (out .entry)) at (valueLine v counts) (now (out .exit)) r ⌝ }
+    ensures short { λ r. ⌜ r ≤ at + 107 ⌝ }
+{
+    let work = counts.work;
+    let span = counts.span;
+    let one = number(out, at, b" value ", v);
+    let two = number(out, one, b" work ", work.0);
+    let three = number(out, two, b" span ", span.0);
+    let four = number(out, three, b" forks ", counts.forks);
+    put(out, four, b"\n")
+}
+
+fn stop_line(out: &mut [u8], at: usize, s: Stop) -> usize
+    requires { ⌜ (at + 116 ≤ length (now out)) ⌝ }
+    ensures wrote { λ r. ⌜ Wrote (now (out .entry)) at (stopLine s) (now (out .exit)) r ⌝ }
+    ensures short { λ r. ⌜ r ≤ at + 116 ⌝ }
+{
+    let one = number(out, at, b" stop ", s.number as u64);
+    let two = number(out, one, b" function ", s.function as u64);
+    let three = number(out, two, b" node ", s.node as u64);
+    let four = number(out, three, b" transitions ", s.transitions);
+    put(out, four, b"\n")
+}
+
+// A machine's name and what it answered.
+fn line(out: &mut [u8], at: usize, name: &[u8], answer: Answer) -> usize
+    requires { ⌜ (at + 126 ≤ length (now out)) × (length (now name) ≤ 10) ⌝ }
+    ensures wrote { λ r. ⌜ Wrote (now (out .entry)) at (now (name .entry) ++ answerLine answer) (now (out .exit)) r ⌝ }
+    ensures short { λ r. ⌜ r ≤ at + 126 ⌝ }
+{
+    let after = put(out, at, name);
+    match answer {
+        Answer::Value(v, counts) => value_line(out, after, v, counts),
+        Answer::Stopped(s) => stop_line(out, after, s),
+        Answer::Refused(r) => refusal_line(out, after, r),
+    }
+}
+
+// Parallel work divided by parallel span, rounded down.
+fn breadth(counts: Counts) -> u64
+    ensures { λ r. ⌜ r ≡ counts .work .0 / counts .span .0 ⌝ }
+{
+    let work = counts.work;
+    let span = counts.span;
+    if span.0 == 0 { 0 } else { work.0 / span.0 }
+}
+
+fn breadth_line(out: &mut [u8], at: usize, parallel: Answer) -> usize
+    requires { ⌜ (at + 29 ≤ length (now out)) ⌝ }
+    ensures wrote { λ r. ⌜ Wrote (now (out .entry)) at (breadthLine parallel) (now (out .exit)) r ⌝ }
+    ensures short { λ r. ⌜ r ≤ at + 29 ⌝ }
+{
+    let Answer::Value(_, counts) = parallel else {
+        return put(out, at, b"breadth none\n");
+    };
+    let one = number(out, at, b"breadth ", breadth(counts));
+    put(out, one, b"\n")
+}
+
+// The lines of three answers; where the input was refused, its one line.
+pub fn tell(out: &mut [u8], sequential: Answer, parallel: Answer, heartbeat: Answer) -> usize
+    requires { ⌜ 512 ≤ length (now out) ⌝ }
+    ensures { λ r. ⌜ Wrote (now (out .entry)) 0 (reportLines sequential parallel heartbeat) (now (out .exit)) r ⌝ }
+{
+    if let Answer::Refused(r) = sequential {
+        return refusal_line(out, 0, r);
+    }
+    let one = line(out, 0, b"sequential", sequential);
+    let two = line(out, one, b"parallel", parallel);
+    let three = line(out, two, b"heartbeat", heartbeat);
+    breadth_line(out, three, parallel)
+}
