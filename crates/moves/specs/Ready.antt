@@ -210,3 +210,8 @@ operationOf f p x y Unknown = halted 4 f p
 
 abbrev pub operation : List ℕ → List ℕ → ℕ → ℕ → Step
 operation w ws b v = operationOf (getD ws (b + 1) 0) (getD ws (b + 2) 0) (getD ws (b + 4) 0) v (nodeAt w (startOf w (getD ws (b + 1) 0)) (getD ws (b + 2) 0))
+
+-- after an operation: its result is returned by a transition, or its stop is left as it is
+pub data Resumed (s : Registers) (top : ℕ) (computed r : Step) : Type 0 where
+  resumes : (v : ℕ) → computed ≡ Value v → r ≡ Go (ticked s (Ret v) top (s .oldest)) → Resumed s top computed r
+  stays : ((v : ℕ) → computed ≡ Value v → ⊥) → r ≡ computed → Resumed s top computed r

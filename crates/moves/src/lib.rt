@@ -13,7 +13,7 @@ ghost use lib.Dec.{ltb, leb};
 ghost use Rattle.table.specs.Words.{arityAt};
 ghost use Rattle.table.specs.Read.{startsOf};
 ghost use Rattle.moves.specs.Layout.{ticked, restarted, risen, oldestWith, oldestWithout, halted};
-ghost use Rattle.moves.specs.Ready.{Ready, Evaluates, Returns, Paid, Stepped, Advanced, Framed, transited, Opened, Forked, OpenedBoth, Sitting, Child, Operand, operation, calledAt, Concluded, Found, Promoted};
+ghost use Rattle.moves.specs.Ready.{Ready, Evaluates, Returns, Paid, Stepped, Advanced, Framed, transited, Opened, Forked, OpenedBoth, Sitting, Child, Operand, operation, Resumed, calledAt, Concluded, Found, Promoted};
 
 // A node of a function with its number of locals, or a value that returns.
 pub enum Control {
@@ -355,7 +355,18 @@ fn operated(words: &[u32], starts: &[usize], ws: &[u64], top: usize, v: u64) -> 
     }
 }
 
-// A right operand: the result is returned, or the stop ends the run.
+// After an operation: the result is returned, or the stop ends the run.
+fn resumed(s: Registers, top: usize, computed: Step) -> Step
+    requires { ⌜ (s .credits .0 < 2 ^ 60) × (s .span .0 < 2 ^ 60) × (s .transitions < 2 ^ 60) ⌝ }
+    ensures { λ r. ⌜ Resumed s top computed r ⌝ }
+{
+    let Step::Value(r) = computed else {
+        return computed;
+    };
+    Step::Go(tick(s, Control::Ret(r), top, s.oldest))
+}
+
+// A right operand: the operation is made.
 fn ret_right_operand(
     words: &[u32],
     starts: &[usize],
@@ -370,10 +381,7 @@ fn ret_right_operand(
     ensures { λ r. ⌜ Stepped (now (words .entry)) (now (ws .entry)) (now (locals .entry)) plan s (now (ws .entry)) (now (locals .entry)) r ⌝ }
 {
     let computed = operated(words, starts, ws, top, v);
-    let Step::Value(r) = computed else {
-        return computed;
-    };
-    Step::Go(tick(s, Control::Ret(r), top, s.oldest))
+    resumed(s, top, computed)
 }
 
 // A condition: the branch is evaluated.
@@ -608,6 +616,28 @@ fn joined(
     Step::Go(restart(s, control, top, s.oldest, whole, s.forks))
 }
 
+// A value arrives at a promoted fork.
+fn arrive(
+    words: &[u32],
+    starts: &[usize],
+    ws: &mut [u64],
+    locals: &mut [u64],
+    plan: Plan,
+    s: Registers,
+    v: u64,
+    top: usize,
+    kind: u64,
+) -> Step
+    requires { ⌜ (Returns (now words) (now ws) (now locals) plan s v top kind) × (7 ≤ kind) × (now starts ≡ startsOf (now words)) ⌝ }
+    ensures { λ r. ⌜ Stepped (now (words .entry)) (now (ws .entry)) (now (locals .entry)) plan s (now (ws .exit)) (now (locals .exit)) r ⌝ }
+{
+    if kind == 7 {
+        turned(words, starts, ws, locals, plan, s, v, top)
+    } else {
+        joined(words, starts, ws, locals, plan, s, v, top, kind)
+    }
+}
+
 // A value returns by a transition, to a frame that is not promoted.
 fn ret_paid(
     words: &[u32],
@@ -654,10 +684,8 @@ fn ret(
         let top = depth - 1;
         let kind = ws[32 * top];
         let fuel = plan.fuel;
-        if kind == 7 {
-            turned(words, starts, ws, locals, plan, s, v, top)
-        } else if 7 < kind {
-            joined(words, starts, ws, locals, plan, s, v, top, kind)
+        if 7 <= kind {
+            arrive(words, starts, ws, locals, plan, s, v, top, kind)
         } else if fuel.allows(s.transitions) {
             ret_paid(words, starts, ws, locals, plan, s, v, top, kind)
         } else {

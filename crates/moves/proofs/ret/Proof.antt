@@ -19,17 +19,14 @@ mul-kind-2 c = search needs
 slice-read-kind : tie.Need-slice-read-kind
 slice-read-kind c = search needs
 
-turned-requires : tie.Need-turned-requires
-turned-requires c κs = (record { ready = c .before .before .before .before .before .before .before .before .before .before .pre .0; is = c .before .before .before .before .before .before .before .before .before .before .pre .1; depth = omega arith; of-kind = c .before .before .if2 .taken }, c .before .before .before .before .before .before .before .before .before .before .pre .2)
-
-joined-requires : tie.Need-joined-requires
-joined-requires c κs = (record { ready = c .before .before .before .before .before .before .before .before .before .before .before .pre .0; is = c .before .before .before .before .before .before .before .before .before .before .before .pre .1; depth = omega arith; of-kind = refl }, c .before .before .if3 .taken, c .before .before .before .before .before .before .before .before .before .before .before .pre .2)
+arrive-requires : tie.Need-arrive-requires
+arrive-requires c κs = (record { ready = c .before .before .before .before .before .before .before .before .before .before .pre .0; is = c .before .before .before .before .before .before .before .before .before .before .pre .1; depth = omega arith; of-kind = refl }, c .before .before .if2 .taken, c .before .before .before .before .before .before .before .before .before .before .pre .2)
 
 allows-requires : tie.Need-allows-requires
 allows-requires c κs = search needs
 
 ret-paid-requires : tie.Need-ret-paid-requires
-ret-paid-requires c κs = (record { ready = c .before .before .before .before .before .before .before .before .before .before .before .before .before .pre .0; is = c .before .before .before .before .before .before .before .before .before .before .before .before .before .pre .1; depth = omega arith; of-kind = refl }, omega arith, ltb-true _ _ (sym (c .before .before .before .allows .ensures) ∙ c .before .before .if4 .taken), c .before .before .before .before .before .before .before .before .before .before .before .before .before .pre .2)
+ret-paid-requires c κs = (record { ready = c .before .before .before .before .before .before .before .before .before .before .before .before .pre .0; is = c .before .before .before .before .before .before .before .before .before .before .before .before .pre .1; depth = omega arith; of-kind = refl }, omega arith, ltb-true _ _ (sym (c .before .before .before .allows .ensures) ∙ c .before .before .if3 .taken), c .before .before .before .before .before .before .before .before .before .before .before .before .pre .2)
 
 mul-index : tie.Need-mul-index
 mul-index c = search needs
@@ -85,17 +82,8 @@ same-length-4 c = search needs
 returns-3 : tie.Need-returns-3
 returns-3 c = search needs
 
-same-length-5 : tie.Need-same-length-5
-same-length-5 c = search needs
-
-same-length-6 : tie.Need-same-length-6
-same-length-6 c = search needs
-
 returns-4 : tie.Need-returns-4
-returns-4 c = search needs
-
-returns-5 : tie.Need-returns-5
-returns-5 c = stepped-dry (c .before .before .before .before .before .before .before .before .before .before .before .before .before .before .before .before .args .words .now) (c .before .before .before .before .before .before .before .before .before .before .before .before .before .before .before .before .args .ws .now) (c .before .before .before .before .before .before .before .before .before .before .before .before .before .before .before .before .args .locals .now) (c .before .before .before .before .before .before .before .before .before .before .before .before .before .before .before .before .args .plan) (c .before .before .before .before .before .before .before .before .before .before .before .before .before .before .before .before .args .s) (c .before .before .before .before .before .before .before .before .before .before .before .before .before .before .before .before .args .v) _ _ (record { ready = c .before .before .before .before .before .before .before .before .before .before .before .before .before .before .before .before .pre .0; is = c .before .before .before .before .before .before .before .before .before .before .before .before .before .before .before .before .pre .1; depth = omega arith; of-kind = refl }) (ltb-false _ _ (sym (c .before .before .before .before .before .before .allows .ensures) ∙ c .before .before .before .before .before .if4 .left)) (omega arith) _ _ (c .before .before .before .index .ensures) (c .before .index2 .ensures) _ (c .halt .ensures)
+returns-4 c = stepped-dry (c .before .before .before .before .before .before .before .before .before .before .before .before .before .before .before .args .words .now) (c .before .before .before .before .before .before .before .before .before .before .before .before .before .before .before .args .ws .now) (c .before .before .before .before .before .before .before .before .before .before .before .before .before .before .before .args .locals .now) (c .before .before .before .before .before .before .before .before .before .before .before .before .before .before .before .args .plan) (c .before .before .before .before .before .before .before .before .before .before .before .before .before .before .before .args .s) (c .before .before .before .before .before .before .before .before .before .before .before .before .before .before .before .args .v) _ _ (record { ready = c .before .before .before .before .before .before .before .before .before .before .before .before .before .before .before .pre .0; is = c .before .before .before .before .before .before .before .before .before .before .before .before .before .before .before .pre .1; depth = omega arith; of-kind = refl }) (ltb-false _ _ (sym (c .before .before .before .before .before .before .allows .ensures) ∙ c .before .before .before .before .before .if3 .left)) (omega arith) _ _ (c .before .before .before .index .ensures) (c .before .index2 .ensures) _ (c .halt .ensures)
 
 pub ret-spec : {M : Type 1} → statement M
 ret-spec =
@@ -105,8 +93,7 @@ ret-spec =
     mul-kind
     mul-kind-2
     slice-read-kind
-    turned-requires
-    joined-requires
+    arrive-requires
     allows-requires
     ret-paid-requires
     mul-index
@@ -127,7 +114,4 @@ ret-spec =
     same-length-3
     same-length-4
     returns-3
-    same-length-5
-    same-length-6
-    returns-4
-    returns-5)
+    returns-4)
