@@ -20,8 +20,8 @@ ghost use lib.ListN.{length, set, drop, replicate};
 ghost use lib.Seq.{paste};
 ghost use Rattle.frames.specs.Frames.{Pushed, Turned, Collected, Loaded, Appended};
 
-// Copies n words of `src`, from word `from` on, over those of `dst` from word `at` on.
-pub fn copy(dst: &mut [u64], at: usize, src: &[u64], from: usize, n: usize)
+// Copies n words of `src`, from word `from` on, over those of `dst` from word `at` on, in a loop: compiled to a call of memcpy.
+fn copy_many(dst: &mut [u64], at: usize, src: &[u64], from: usize, n: usize)
     requires { ⌜ (at + n ≤ length (now dst)) × (from + n ≤ length (now src)) ⌝ }
     ensures { λ _. ⌜ now (dst .exit) ≡ paste (now (dst .entry)) at (drop from (now (src .entry))) n ⌝ }
 {
@@ -30,6 +30,30 @@ pub fn copy(dst: &mut [u64], at: usize, src: &[u64], from: usize, n: usize)
         dst[at + i] = src[from + i];
         i += 1;
     }
+}
+
+// The same. The first four words, and most frames save no more, are cheaper one by one.
+pub fn copy(dst: &mut [u64], at: usize, src: &[u64], from: usize, n: usize)
+    requires { ⌜ (at + n ≤ length (now dst)) × (from + n ≤ length (now src)) ⌝ }
+    ensures { λ _. ⌜ now (dst .exit) ≡ paste (now (dst .entry)) at (drop from (now (src .entry))) n ⌝ }
+{
+    if n == 0 {
+        return;
+    }
+    dst[at] = src[from];
+    if n == 1 {
+        return;
+    }
+    dst[at + 1] = src[from + 1];
+    if n == 2 {
+        return;
+    }
+    dst[at + 2] = src[from + 2];
+    if n == 3 {
+        return;
+    }
+    dst[at + 3] = src[from + 3];
+    copy_many(dst, at + 4, src, from + 4, n - 4);
 }
 
 // Writes a new frame over the words of frame `depth`: it saves the first k locals and has no value yet.

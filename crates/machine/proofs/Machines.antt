@@ -2,7 +2,7 @@
 --     copied            the copied arguments are the first locals
 --     few               there is room for them
 --     ran-with          so that the run is that of the arguments
---     settled           what the check assures of the settings
+--     limits            what the check assures of the settings
 --     tells-run         an accepted input's answer is that of its run
 --     tells-refusal     a refused one's is the refusal
 --     sequential-suits, parallel-suits, heartbeat-suits     the flags of the three
@@ -29,7 +29,7 @@ use Rattle.language.proofs.Told.{answer-refused, answer-run}
 use Rattle.language.proofs.Claim.{claim-of}
 use Rattle.moves.specs.declared.Plan.{Plan}
 use Rattle.machine.specs.declared.Answers.{Answers}
-use Rattle.moves.specs.Ready.{Settled}
+use Rattle.moves.specs.Ready.{Limits}
 use Rattle.machine.specs.Workspace.{leftBy}
 use Rattle.machine.specs.Runs.{Accepted, Ran, Suits, Tells}
 use Rattle.machine.specs.AllThree.{AllThree}
@@ -46,8 +46,8 @@ few w arguments ws plan a = omega (arith, a .count, a .table .contents .entries 
 pub ran-with : (w from arguments : List ℕ) (size : ℕ) (plan : Plan) (r : Answer) → from ≡ arguments → Ran w from size plan r → Ran w arguments size plan r
 ran-with w from arguments size plan r e h = rw e at h
 
-pub settled : (w : List ℕ) (count N : ℕ) (ws : List ℕ) (plan : Plan) → Admitted w count (plan .fuel .0) N (plan .tau) (length ws) → Settled ws plan
-settled w count N ws plan a = record { fuel = a .fuel .most; tau = a .tau .most; frames = a .frames .most }
+pub limits : (w : List ℕ) (count N : ℕ) (ws : List ℕ) (plan : Plan) → Admitted w count (plan .fuel .0) N (plan .tau) (length ws) → Limits ws plan
+limits w count N ws plan a = record { fuel = a .fuel .most; tau = a .tau .most; frames = a .frames .most }
 
 module _ (w arguments : List ℕ) (N size : ℕ) where
   pub tells-run : (plan : Plan) (r : Answer) → checkedOf w (length arguments) (plan .fuel .0) N (plan .tau) size ≡ reading.Accepted

@@ -27,7 +27,7 @@ use Rattle.moves.specs.declared.Plan.{Plan}
 use Rattle.moves.specs.declared.Step.{Step}
 use Rattle.moves.specs.declared.Step.the-variants.{Go, Value, Halt}
 use Rattle.moves.specs.Layout.{stackOf, controlOf, stateOf, resultOf}
-use Rattle.moves.specs.Ready.{Held, Controlled, Settled, Ready, KeptBy, Advanced}
+use Rattle.moves.specs.Ready.{Held, Controlled, Limits, Ready, KeptBy, Advanced}
 use Rattle.machine.specs.Workspace.{leftBy}
 use Rattle.machine.specs.Runs.{begun, toldOf, Countable, Begins, Ran}
 
@@ -78,7 +78,7 @@ running-first w ws ls plan count b s u =
           };
           born = λ h. refl;
         };
-        set = b .set;
+        limits = b .limits;
         bounded = start-bounded (plan .tau) (language w) (plan .fuel .0) (length ws / 32) (entry (take count ls));
       };
       left = 5 * plan .fuel .0 + length ws / 32;
@@ -89,9 +89,9 @@ running-first w ws ls plan count b s u =
 module _ (w arguments : List ℕ) (size : ℕ) (plan : Plan) (ws ls : List ℕ) (s : Registers) (r : Running w arguments size plan ws ls s) where
   pub running-counts : Countable plan s
   running-counts = record {
-    transitions = omega (arith, r .ready .bounded .within-fuel, r .ready .set .fuel);
-    tau = r .ready .set .tau;
-    forks = omega (arith, r .ready .bounded .forks, r .ready .set .fuel, r .ready .set .frames);
+    transitions = omega (arith, r .ready .bounded .within-fuel, r .ready .limits .fuel);
+    tau = r .ready .limits .tau;
+    forks = omega (arith, r .ready .bounded .forks, r .ready .limits .fuel, r .ready .limits .frames);
   }
 
   bounded : BoundedState (plan .tau) (language w) (plan .fuel .0) (size / 32) (stateOf w (plan .tau) ws ls s)
@@ -104,7 +104,7 @@ module _ (w arguments : List ℕ) (size : ℕ) (plan : Plan) (ws ls : List ℕ) 
     moved = rw (r .long) at (g .same)
 
     advances : Advances (plan .tau) (language w) (plan .fuel .0) (size / 32) (to-go w size plan ws ls s) (resultOf w (plan .tau) ws′ ls′ s o)
-    advances = rw moved at (step-by-advances (plan .tau) (language w) (plan .fuel .0) (size / 32) (r .ready .set .tau) (plan .birth) (plan .period) (stateOf w (plan .tau) ws ls s) bounded)
+    advances = rw moved at (step-by-advances (plan .tau) (language w) (plan .fuel .0) (size / 32) (r .ready .limits .tau) (plan .birth) (plan .period) (stateOf w (plan .tau) ws ls s) bounded)
 
     turned : (m : Schedule) → Flags (plan .fuel .0) m (plan .birth) (plan .period)
         → and-then (resultOf w (plan .tau) ws′ ls′ s o) (schedule.run (step (spans (plan .tau)) (language w) (plan .fuel .0) (size / 32) m) (r .left))
@@ -128,7 +128,7 @@ module _ (w arguments : List ℕ) (size : ℕ) (plan : Plan) (ws ls : List ℕ) 
           long = long′;
           ready = record {
             kept = rw e at (g .kept);
-            set = record { fuel = r .ready .set .fuel; tau = r .ready .set .tau; frames = rw l (r .ready .set .frames) };
+            limits = record { fuel = r .ready .limits .fuel; tau = r .ready .limits .tau; frames = rw l (r .ready .limits .frames) };
             bounded = rw long′ (x .0);
           };
           left = r .left - 1;

@@ -21,7 +21,7 @@ use Rattle.moves.specs.declared.Registers.{Registers}
 use Rattle.moves.specs.declared.Plan.{Plan}
 use Rattle.moves.specs.declared.Step.{Step}
 use Rattle.moves.specs.declared.Step.the-variants.{Go, Value, Halt}
-use Rattle.moves.specs.Ready.{Settled}
+use Rattle.moves.specs.Ready.{Limits}
 use Rattle.machine.specs.Workspace.{leftBy}
 
 -- the registers at a run's start: function 0's root, with so many arguments, and no frame
@@ -53,12 +53,12 @@ pub record Countable (plan : Plan) (s : Registers) : Type 0 where
 pub record Accepted (w arguments ws : List ℕ) (plan : Plan) : Type 0 where
   pub table : WellFormed w
   pub count : length arguments ≡ arityAt w 0
-  pub set : Settled ws plan
+  pub limits : Limits ws plan
 
 -- a run can begin, with the first `count` of the sixteen locals as arguments
 pub record Begins (w ws ls : List ℕ) (plan : Plan) (count : ℕ) : Type 0 where
   pub table : WellFormed w
-  pub set : Settled ws plan
+  pub limits : Limits ws plan
   pub sixteen : length ls ≡ 16
   pub arguments : count ≡ arityAt w 0
 

@@ -30,8 +30,8 @@ module _ (w ws ls : List ℕ) (plan : Plan) (s : Registers) (r : Ready w ws ls p
   promote-ready b e t = (
     r .kept .room,
     ltb-true _ _ (and-right (leb (plan .period) (s .credits .0)) (ltb (s .oldest) (s .depth)) (sym e ∙ t)),
-    omega (arith, r .kept .room, r .set .frames),
-    omega (arith, r .bounded .forks, r .set .fuel, r .set .frames),
+    omega (arith, r .kept .room, r .limits .frames),
+    omega (arith, r .bounded .forks, r .limits .fuel, r .limits .frames),
   )
 
   pub advanced-promote : (b : Bool) → b ≡ (leb (plan .period) (s .credits .0) && ltb (s .oldest) (s .depth)) → b ≡ true

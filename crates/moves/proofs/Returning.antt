@@ -31,7 +31,7 @@ use Rattle.moves.specs.declared.Seat.{Seat}
 use Rattle.moves.specs.declared.Step.{Step}
 use Rattle.moves.specs.declared.Step.the-variants.{Go, Value}
 use Rattle.moves.specs.Layout.{codeAt, argumentsAt, slots, slotOf, slotAt, stackOf, controlOf, countsOf, stateOf, resultOf, ticked, restarted, oldestWithout, halted}
-use Rattle.moves.specs.Ready.{Stands, tagOf, Fitting, FittingAt, Held, Controlled, Oldest, Kept, Ready, Paid, KeptBy, Stepped, Returns, Sitting, Child, Concluded, Operand, calledAt, stepOf, operationOf, operation}
+use Rattle.moves.specs.Ready.{Stands, tagOf, Fitting, FittingAt, Held, Controlled, Oldest, Kept, Ready, Paid, KeptBy, Stepped, Returns, Sitting, Child, Concluded, Operand, calledAt, stepOf, operationOf, operation, Resumed, resumes, stays}
 use Rattle.moves.proofs.Nodes.{start-is, arithmetic-in, operation-in, choose-in, let-in, both-in, called-in, argument-later, enter}
 use Rattle.moves.proofs.Stacks.{stack-more, held-more, held-top, same-slots, few-arguments}
 use Rattle.moves.proofs.OldestFork.{oldest-other, oldest-under, oldest-without, without-none}
@@ -59,7 +59,7 @@ module _ (w ws ls : List ℕ) (plan : Plan) (s : Registers) (v t kind : ℕ) (q 
   room = omega (arith, r .kept .room, q .depth)
 
   small : t < 4096
-  small = omega (arith, r .set .frames, room)
+  small = omega (arith, r .limits .frames, room)
 
   oldest-here : Oldest ws (t + 1) (s .oldest)
   oldest-here = rw (q .depth) at (r .kept .oldest)
@@ -293,7 +293,7 @@ module _ (w ws ls : List ℕ) (plan : Plan) (s : Registers) (v t : ℕ) where
     unfolding total kept-spans
     join-fits =
         let x = rw stack-late at (q .ready .bounded .costs) in
-        omega (arith, x, q .ready .bounded .within-fuel, q .ready .bounded .forks, q .ready .set .fuel, q .ready .set .tau, q .ready .set .frames)
+        omega (arith, x, q .ready .bounded .within-fuel, q .ready .bounded .forks, q .ready .limits .fuel, q .ready .limits .tau, q .ready .limits .frames)
 
     pub stepped-join : (ls′ : List ℕ) (c : Control) → Concluded w ws (32 * t) v ls′ c → (m : ℕ) → m ≡ getD ws (32 * t + 5) 0 + (plan .tau + max (getD ws (32 * t + 6) 0) (s .span .0))
         → (n : Registers) → n ≡ restarted s c t (s .oldest) m (s .forks) → Stepped w ws ls plan s ws ls′ (Go n)
@@ -406,6 +406,10 @@ module _ (w ws ls : List ℕ) (plan : Plan) (s : Registers) (v t : ℕ) (q : Ret
       by : (c : Computed) → o ≡ stepOf (getD ws (32 * t + 1) 0) (getD ws (32 * t + 2) 0) c → arrive w frame v ≡ result c → Stepped w ws ls plan s ws ls o
       by (Is z) e a = absurd (not z e)
       by (Fails i) e a = rw e (record { same = returned w ws ls plan s v t 1 q ∙ fails w ws ls plan s v t 1 q paid frame i a; kept = tt })
+
+  pub stepped-resumed : Paid plan s → (o : Step) → o ≡ operation w ws (32 * t) v → (r : Step) → Resumed s t o r → Stepped w ws ls plan s ws ls r
+  stepped-resumed paid o e r (resumes z i u) = rw u (stepped-result paid z (sym i ∙ e) _ refl)
+  stepped-resumed paid o e r (stays not u) = rw u (stepped-failure paid o e not)
 
 -- NO FUEL: a frame that is not promoted is not reached
 module _ (w ws ls : List ℕ) (plan : Plan) (s : Registers) (v t kind : ℕ) (q : Returns w ws ls plan s v t kind) (dry : plan .fuel .0 ≤ s .transitions) where

@@ -51,7 +51,7 @@ module _ (w ws ls : List ℕ) (plan : Plan) (s : Registers) (r : Ready w ws ls p
 
   -- the counts stay small
   pub bounds : (s .credits .0 < 2 ^ 60) × (s .span .0 < 2 ^ 60) × (s .transitions < 2 ^ 60) × (s .forks < 2 ^ 60)
-  bounds = omega (arith, r .bounded .within-fuel, r .bounded .credits, r .bounded .costs, r .bounded .forks, r .set .fuel, r .set .frames)
+  bounds = omega (arith, r .bounded .within-fuel, r .bounded .credits, r .bounded .costs, r .bounded .forks, r .limits .fuel, r .limits .frames)
 
   -- a transition leads to this state
   gone : (c : FlatControl Code) (S : List (Slot ℕ Frame Code)) (t : FlatCounts) (ws′ ls′ : List ℕ) (next : Registers)
@@ -95,7 +95,7 @@ module _ (w ws ls : List ℕ) (plan : Plan) (s : Registers) (r : Ready w ws ls p
     pub framed : Framed ws ls s (record { function = f; node = p; count = k })
     framed = record {
       room = r .kept .room;
-      frames = r .set .frames;
+      frames = r .limits .frames;
       sixteen = r .kept .sixteen;
       few = here .few;
       node = inside w (r .kept .table) here .1;
@@ -155,7 +155,7 @@ module _ (w ws ls : List ℕ) (plan : Plan) (s : Registers) (r : Ready w ws ls p
       pushed-kept = record {
         table = r .kept .table;
         sixteen = r .kept .sixteen;
-        room = omega (arith, below-cap (length ws) (s .depth) h (r .set .frames));
+        room = omega (arith, below-cap (length ws) (s .depth) h (r .limits .frames));
         held = held-more w ws′ (s .depth) (rw (u .is-kind, u .is-function, u .is-node, u .is-count, u .is-value) ok) (below .1);
         control = child;
         oldest = old;
@@ -170,7 +170,7 @@ module _ (w ws ls : List ℕ) (plan : Plan) (s : Registers) (r : Ready w ws ls p
     stepped-frame ws′ long kind small fr q n ok child o (dry h c d) = rw (c, d) (record { same = evaluates ∙ rw (n, le-ltb _ _ h); kept = tt })
     stepped-frame ws′ long kind small fr q n ok child o (Opened.full h i c d) = rw (c, d) (record { same = evaluates ∙ rw (n, lt-ltb _ _ h, length-stack ws (s .depth), le-ltb _ _ i); kept = tt })
     stepped-frame ws′ long kind small fr q n ok child o (opens h i u d) =
-        let low : s .depth < 4096 = below-cap (length ws) (s .depth) i (r .set .frames) .1 in
+        let low : s .depth < 4096 = below-cap (length ws) (s .depth) i (r .limits .frames) .1 in
         let old = oldest-other ws ws′ (s .depth) (sym (u .below)) (s .oldest) low (r .kept .oldest) (λ x. omega (arith, u .is-kind)) (λ x. absurd (omega (arith, u .is-kind))) in
         rw d (record {
           same = evaluates ∙ rw (n, lt-ltb _ _ h, length-stack ws (s .depth), lt-ltb _ _ i, pushed-stack ws′ long kind 0 (s .oldest) i u ok child old (r .kept .born) (ordinary fr) (q _));
@@ -214,7 +214,7 @@ module _ (w ws ls : List ℕ) (plan : Plan) (s : Registers) (r : Ready w ws ls p
           let t : tagAt w (startOf w f) p ≡ 6 = tag-is w (r .kept .table) here ∙ ap tagFor n in
           let ok : Fitting w 7 f p k 0 = record { stands = here; tag = t; awaits = λ y. absurd (omega arith) } in
           let child = both-in w (r .kept .table) here t .1 in
-          let low : s .depth < 4096 = below-cap (length ws) (s .depth) h (r .set .frames) .1 in
+          let low : s .depth < 4096 = below-cap (length ws) (s .depth) h (r .limits .frames) .1 in
           let old = oldest-other ws ws′ (s .depth) (sym (u .below)) (s .oldest) low (r .kept .oldest) (λ y. omega (arith, u .is-kind)) (λ y. omega (arith, r .kept .born x)) in
           rw d (record {
             same = evaluates ∙ rw (n, x, length-stack ws (s .depth), lt-ltb _ _ h, pushed-stack ws′ long 7 (s .span .0) (s .oldest) h u ok child old (r .kept .born) (promoted-left (s .span .0) code) refl);

@@ -74,7 +74,8 @@ pub record Kept (w ws ls : List ℕ) (birth : Bool) (c : Control) (d o : ℕ) : 
   pub oldest : Oldest ws d o
   pub born : birth ≡ true → o ≡ 4096
 
-pub record Settled (ws : List ℕ) (plan : Plan) : Type 0 where
+-- the ranges of the settings, which keep every count small
+pub record Limits (ws : List ℕ) (plan : Plan) : Type 0 where
   pub fuel : plan .fuel .0 ≤ 100000000
   pub tau : plan .tau ≤ 10000
   pub frames : length ws / 32 ≤ 4096
@@ -82,7 +83,7 @@ pub record Settled (ws : List ℕ) (plan : Plan) : Type 0 where
 -- with what the theory keeps true of every state
 pub record Ready (w ws ls : List ℕ) (plan : Plan) (s : Registers) : Type 0 where
   pub kept : Kept w ws ls (plan .birth) (s .control) (s .depth) (s .oldest)
-  pub set : Settled ws plan
+  pub limits : Limits ws plan
   pub bounded : Bounded (plan .tau) (language w) (plan .fuel .0) (length ws / 32) (controlOf (s .control) ls) (stackOf ws (s .depth)) (s .credits .0) (s .span .0) (countsOf s)
 
 abbrev pub Paid : Plan → Registers → Type 0
@@ -210,3 +211,8 @@ operationOf f p x y Unknown = halted 4 f p
 
 abbrev pub operation : List ℕ → List ℕ → ℕ → ℕ → Step
 operation w ws b v = operationOf (getD ws (b + 1) 0) (getD ws (b + 2) 0) (getD ws (b + 4) 0) v (nodeAt w (startOf w (getD ws (b + 1) 0)) (getD ws (b + 2) 0))
+
+-- after an operation: its result is returned by a transition, or its stop is left as it is
+pub data Resumed (s : Registers) (top : ℕ) (computed r : Step) : Type 0 where
+  resumes : (v : ℕ) → computed ≡ Value v → r ≡ Go (ticked s (Ret v) top (s .oldest)) → Resumed s top computed r
+  stays : ((v : ℕ) → computed ≡ Value v → ⊥) → r ≡ computed → Resumed s top computed r

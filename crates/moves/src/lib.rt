@@ -13,7 +13,7 @@ ghost use lib.Dec.{ltb, leb};
 ghost use Rattle.table.specs.Words.{arityAt};
 ghost use Rattle.table.specs.Read.{startsOf};
 ghost use Rattle.moves.specs.Layout.{ticked, restarted, risen, oldestWith, oldestWithout, halted};
-ghost use Rattle.moves.specs.Ready.{Ready, Evaluates, Returns, Paid, Stepped, Advanced, Framed, transited, Opened, Forked, OpenedBoth, Sitting, Child, Operand, operation, calledAt, Concluded, Found, Promoted};
+ghost use Rattle.moves.specs.Ready.{Ready, Evaluates, Returns, Paid, Stepped, Advanced, Framed, transited, Opened, Forked, OpenedBoth, Sitting, Child, Operand, operation, Resumed, calledAt, Concluded, Found, Promoted};
 
 // A node of a function with its number of locals, or a value that returns.
 pub enum Control {
@@ -160,9 +160,10 @@ fn transit(plan: Plan, s: Registers, seat: Seat, control: Control) -> Step
 {
     let fuel = plan.fuel;
     if fuel.allows(s.transitions) {
-        return Step::Go(tick(s, control, s.depth, s.oldest));
+        Step::Go(tick(s, control, s.depth, s.oldest))
+    } else {
+        halt(20, seat.function, seat.node)
     }
-    halt(20, seat.function, seat.node)
 }
 
 // A transition that opens a frame, if there is fuel and then a free frame.
@@ -187,11 +188,13 @@ fn open(
         if depth < ws.len() / 32 {
             frames::push(ws, depth, kind, f, p, k, locals, 0);
             let up = rise(s);
-            return Step::Go(tick(up, Control::Eval(f, p + 1, k), depth + 1, oldest));
+            Step::Go(tick(up, Control::Eval(f, p + 1, k), depth + 1, oldest))
+        } else {
+            halt(21, f, p)
         }
-        return halt(21, f, p);
+    } else {
+        halt(20, f, p)
     }
-    halt(20, f, p)
 }
 
 // Opens a fork that is promoted at its birth, with no transition.
@@ -207,16 +210,17 @@ fn fork(ws: &mut [u64], locals: &[u64], s: Registers, seat: Seat) -> Step
     if depth < ws.len() / 32 {
         frames::push(ws, depth, 7, f, p, k, locals, span.0);
         let up = rise(s);
-        return Step::Go(restart(
+        Step::Go(restart(
             up,
             Control::Eval(f, p + 1, k),
             depth + 1,
             s.oldest,
             Span::none(),
             s.forks + 1,
-        ));
+        ))
+    } else {
+        halt(21, f, p)
     }
-    halt(21, f, p)
 }
 
 // The oldest plain fork that awaits its left where one more is opened.
@@ -239,10 +243,11 @@ fn evaluate_both(ws: &mut [u64], locals: &[u64], plan: Plan, s: Registers, seat:
     ensures { λ r. ⌜ OpenedBoth (now (ws .entry)) (now (ws .exit)) (now (locals .entry)) plan s seat r ⌝ }
 {
     if plan.birth {
-        return fork(ws, locals, s, seat);
+        fork(ws, locals, s, seat)
+    } else {
+        let oldest = oldest_with(s.oldest, s.depth);
+        open(ws, locals, plan, s, seat, 5, oldest)
     }
-    let oldest = oldest_with(s.oldest, s.depth);
-    open(ws, locals, plan, s, seat, 5, oldest)
 }
 
 // Evaluates a node.
@@ -296,16 +301,14 @@ fn child(
     let count = index(ws[b + 3]);
     frames::load(locals, ws, top, count);
     let start = starts[function];
-    if last {
-        return Seat {
-            function,
-            node: table::third(words, start, p),
-            count,
-        };
-    }
+    let node = if last {
+        table::third(words, start, p)
+    } else {
+        table::second(words, start, p)
+    };
     Seat {
         function,
-        node: table::second(words, start, p),
+        node,
         count,
     }
 }
@@ -352,7 +355,18 @@ fn operated(words: &[u32], starts: &[usize], ws: &[u64], top: usize, v: u64) -> 
     }
 }
 
-// A right operand: the result is returned, or the stop ends the run.
+// After an operation: the result is returned, or the stop ends the run.
+fn resumed(s: Registers, top: usize, computed: Step) -> Step
+    requires { ⌜ (s .credits .0 < 2 ^ 60) × (s .span .0 < 2 ^ 60) × (s .transitions < 2 ^ 60) ⌝ }
+    ensures { λ r. ⌜ Resumed s top computed r ⌝ }
+{
+    let Step::Value(r) = computed else {
+        return computed;
+    };
+    Step::Go(tick(s, Control::Ret(r), top, s.oldest))
+}
+
+// A right operand: the operation is made.
 fn ret_right_operand(
     words: &[u32],
     starts: &[usize],
@@ -367,10 +381,7 @@ fn ret_right_operand(
     ensures { λ r. ⌜ Stepped (now (words .entry)) (now (ws .entry)) (now (locals .entry)) plan s (now (ws .entry)) (now (locals .entry)) r ⌝ }
 {
     let computed = operated(words, starts, ws, top, v);
-    let Step::Value(r) = computed else {
-        return computed;
-    };
-    Step::Go(tick(s, Control::Ret(r), top, s.oldest))
+    resumed(s, top, computed)
 }
 
 // A condition: the branch is evaluated.
@@ -486,9 +497,10 @@ fn ret_argument(
     let n = index(ws[b + 4]);
     let g = table::called(words, starts[function], p);
     if n + 1 < table::arity(words, g) {
-        return next_argument(words, starts, ws, locals, plan, s, v, top, n);
+        next_argument(words, starts, ws, locals, plan, s, v, top, n)
+    } else {
+        last_argument(words, ws, locals, plan, s, v, top, n, g)
     }
-    last_argument(words, ws, locals, plan, s, v, top, n, g)
 }
 
 // The left value of a plain fork: the right branch is evaluated.
@@ -604,6 +616,28 @@ fn joined(
     Step::Go(restart(s, control, top, s.oldest, whole, s.forks))
 }
 
+// A value arrives at a promoted fork.
+fn arrive(
+    words: &[u32],
+    starts: &[usize],
+    ws: &mut [u64],
+    locals: &mut [u64],
+    plan: Plan,
+    s: Registers,
+    v: u64,
+    top: usize,
+    kind: u64,
+) -> Step
+    requires { ⌜ (Returns (now words) (now ws) (now locals) plan s v top kind) × (7 ≤ kind) × (now starts ≡ startsOf (now words)) ⌝ }
+    ensures { λ r. ⌜ Stepped (now (words .entry)) (now (ws .entry)) (now (locals .entry)) plan s (now (ws .exit)) (now (locals .exit)) r ⌝ }
+{
+    if kind == 7 {
+        turned(words, starts, ws, locals, plan, s, v, top)
+    } else {
+        joined(words, starts, ws, locals, plan, s, v, top, kind)
+    }
+}
+
 // A value returns by a transition, to a frame that is not promoted.
 fn ret_paid(
     words: &[u32],
@@ -645,21 +679,19 @@ fn ret(
 {
     let depth = s.depth;
     if depth == 0 {
-        return Step::Value(v);
+        Step::Value(v)
+    } else {
+        let top = depth - 1;
+        let kind = ws[32 * top];
+        let fuel = plan.fuel;
+        if 7 <= kind {
+            arrive(words, starts, ws, locals, plan, s, v, top, kind)
+        } else if fuel.allows(s.transitions) {
+            ret_paid(words, starts, ws, locals, plan, s, v, top, kind)
+        } else {
+            halt(20, index(ws[32 * top + 1]), index(ws[32 * top + 2]))
+        }
     }
-    let top = depth - 1;
-    let kind = ws[32 * top];
-    if kind == 7 {
-        return turned(words, starts, ws, locals, plan, s, v, top);
-    }
-    if 7 < kind {
-        return joined(words, starts, ws, locals, plan, s, v, top, kind);
-    }
-    let fuel = plan.fuel;
-    if fuel.allows(s.transitions) {
-        return ret_paid(words, starts, ws, locals, plan, s, v, top, kind);
-    }
-    halt(20, index(ws[32 * top + 1]), index(ws[32 * top + 2]))
 }
 
 // The next plain fork from a place on, upward.
@@ -715,23 +747,24 @@ pub fn advance(
 {
     let credits = s.credits;
     if due(plan.period, credits, s.oldest, s.depth) {
-        return Step::Go(promote(ws, s));
-    }
-    let control = s.control;
-    match control {
-        Control::Eval(function, node, count) => evaluate(
-            words,
-            starts,
-            ws,
-            locals,
-            plan,
-            s,
-            Seat {
-                function,
-                node,
-                count,
-            },
-        ),
-        Control::Ret(v) => ret(words, starts, ws, locals, plan, s, v),
+        Step::Go(promote(ws, s))
+    } else {
+        let control = s.control;
+        match control {
+            Control::Eval(function, node, count) => evaluate(
+                words,
+                starts,
+                ws,
+                locals,
+                plan,
+                s,
+                Seat {
+                    function,
+                    node,
+                    count,
+                },
+            ),
+            Control::Ret(v) => ret(words, starts, ws, locals, plan, s, v),
+        }
     }
 }

@@ -1,7 +1,7 @@
 -- `machine::machine` meets its contract: the check's answer decides between the run and the refusal (proofs/Machines.antt). Assumes nothing.
 use mathlib.Core.Path.{refl, sym, _∙_}
 use Rattle.machine.specs.Workspace.{leftBy}
-use Rattle.machine.proofs.Machines.{settled, tells-run, tells-refusal}
+use Rattle.machine.proofs.Machines.{limits, tells-run, tells-refusal}
 use borrow.Author.Needs.{needs}
 use Rattle.machine.proofs.machine.Statement.{statement}
 use Rattle.machine.proofs.machine.Tie as tie
@@ -13,7 +13,7 @@ enum-told : tie.Need-enum-told
 enum-told c = search needs
 
 launch-requires : tie.Need-launch-requires
-launch-requires c κs = let a = c .before .before .before .before .checked .ensures .1 .0 (c .before .enum-told .given .1) in record { table = a .table; count = a .arguments; set = settled (c .before .before .before .before .before .before .before .before .args .words .now) _ _ _ _ a }
+launch-requires c κs = let a = c .before .before .before .before .checked .ensures .1 .0 (c .before .enum-told .given .1) in record { table = a .table; count = a .arguments; limits = limits (c .before .before .before .before .before .before .before .before .args .words .now) _ _ _ _ a }
 
 enum-known-read : tie.Need-enum-known-read
 enum-known-read c = search needs

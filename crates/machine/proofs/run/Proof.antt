@@ -12,7 +12,7 @@ copy-requires : tie.Need-copy-requires
 copy-requires c κs = let room = few (c .before .before .before .before .before .before .args .words .now) (c .before .before .before .before .before .before .args .arguments .now) _ _ (c .before .before .before .before .before .before .pre .0) in (omega (arith, c .before .before .before .before .before .before .pre .2), omega arith)
 
 drive-requires : tie.Need-drive-requires
-drive-requires c κs = (record { table = c .before .before .before .before .before .before .before .before .before .before .before .pre .0 .table; set = c .before .before .before .before .before .before .before .before .before .before .before .pre .0 .set; sixteen = c .before .before .before .before .copy .kept .0 ∙ c .before .before .before .before .before .before .before .before .before .before .before .pre .2; arguments = c .before .before .before .before .before .before .before .before .before .before .before .pre .0 .count }, c .before .before .before .before .before .before .before .before .before .before .before .pre .1)
+drive-requires c κs = (record { table = c .before .before .before .before .before .before .before .before .before .before .before .pre .0 .table; limits = c .before .before .before .before .before .before .before .before .before .before .before .pre .0 .limits; sixteen = c .before .before .before .before .copy .kept .0 ∙ c .before .before .before .before .before .before .before .before .before .before .before .pre .2; arguments = c .before .before .before .before .before .before .before .before .before .before .before .pre .0 .count }, c .before .before .before .before .before .before .before .before .before .before .before .pre .1)
 
 clear-requires : tie.Need-clear-requires
 clear-requires c κs = search needs

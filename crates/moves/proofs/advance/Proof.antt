@@ -10,12 +10,6 @@ due-requires c κs = search needs
 promote-requires : tie.Need-promote-requires
 promote-requires c κs = promote-ready (c .before .before .before .before .before .before .before .before .args .words .now) (c .before .before .before .before .before .before .before .before .args .ws .now) (c .before .before .before .before .before .before .before .before .args .locals .now) (c .before .before .before .before .before .before .before .before .args .plan) (c .before .before .before .before .before .before .before .before .args .s) (c .before .before .before .before .before .before .before .before .pre .0) _ (c .before .before .due .ensures) (c .before .if1 .taken)
 
-same-length : tie.Need-same-length
-same-length c = search needs
-
-returns : tie.Need-returns
-returns c = advanced-promote (c .before .before .before .before .before .before .before .before .before .before .before .args .words .now) (c .before .before .before .before .before .before .before .before .before .before .before .args .ws .now) (c .before .before .before .before .before .before .before .before .before .before .before .args .locals .now) (c .before .before .before .before .before .before .before .before .before .before .before .args .plan) (c .before .before .before .before .before .before .before .before .before .before .before .args .s) (c .before .before .before .before .before .before .before .before .before .before .before .pre .0) _ (c .before .before .before .before .before .due .ensures) (c .before .before .before .before .if1 .taken) _ (c .before .before .promote .kept .0) _ (c .before .before .promote .ensures)
-
 enum-known-control : tie.Need-enum-known-control
 enum-known-control c = search needs
 
@@ -27,6 +21,12 @@ enum-known-control-2 c = search needs
 
 ret-requires : tie.Need-ret-requires
 ret-requires c κs = search needs
+
+same-length : tie.Need-same-length
+same-length c = search needs
+
+returns : tie.Need-returns
+returns c = advanced-promote (c .before .before .before .before .before .before .before .before .before .before .before .args .words .now) (c .before .before .before .before .before .before .before .before .before .before .before .args .ws .now) (c .before .before .before .before .before .before .before .before .before .before .before .args .locals .now) (c .before .before .before .before .before .before .before .before .before .before .before .args .plan) (c .before .before .before .before .before .before .before .before .before .before .before .args .s) (c .before .before .before .before .before .before .before .before .before .before .before .pre .0) _ (c .before .before .before .before .before .due .ensures) (c .before .before .before .before .if1 .taken) _ (c .before .before .promote .kept .0) _ (c .before .before .promote .ensures)
 
 same-length-2 : tie.Need-same-length-2
 same-length-2 c = search needs
@@ -52,12 +52,12 @@ advance-spec =
     (tie.spec
     due-requires
     promote-requires
-    same-length
-    returns
     enum-known-control
     evaluate-requires
     enum-known-control-2
     ret-requires
+    same-length
+    returns
     same-length-2
     same-length-3
     returns-2

@@ -7,17 +7,17 @@ use Rattle.moves.proofs.evaluate_both.Tie as tie
 fork-requires : tie.Need-fork-requires
 fork-requires c κs = search needs
 
-same-length : tie.Need-same-length
-same-length c = search needs
-
-returns : tie.Need-returns
-returns c = born (c .before .before .before .before .if1 .taken) (c .before .before .fork .ensures)
-
 oldest-with-requires : tie.Need-oldest-with-requires
 oldest-with-requires c κs = search needs
 
 open-requires : tie.Need-open-requires
 open-requires c κs = search needs
+
+same-length : tie.Need-same-length
+same-length c = search needs
+
+returns : tie.Need-returns
+returns c = born (c .before .before .before .before .if1 .taken) (c .before .before .fork .ensures)
 
 same-length-2 : tie.Need-same-length-2
 same-length-2 c = search needs
@@ -30,9 +30,9 @@ evaluate-both-spec =
     tie.close
     (tie.spec
     fork-requires
-    same-length
-    returns
     oldest-with-requires
     open-requires
+    same-length
+    returns
     same-length-2
     returns-2)

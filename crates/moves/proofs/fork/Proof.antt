@@ -13,8 +13,8 @@ push-requires c κs = search needs
 rise-requires : tie.Need-rise-requires
 rise-requires c κs = search needs
 
-add-t18 : tie.Need-add-t18
-add-t18 c = search needs
+add-t19 : tie.Need-add-t19
+add-t19 c = search needs
 
 add-restart : tie.Need-add-restart
 add-restart c = search needs
@@ -28,14 +28,14 @@ add-restart-2 c = search needs
 restart-requires : tie.Need-restart-requires
 restart-requires c κs = search needs
 
+halt-requires : tie.Need-halt-requires
+halt-requires c κs = search needs
+
 same-length : tie.Need-same-length
 same-length c = search needs
 
 returns : tie.Need-returns
 returns c = forks (c .before .before .before .before .before .before .before .before .if1 .taken) (c .before .before .before .before .before .before .push .ensures) (ap Go (rw (c .before .before .before .rise .ensures, c .before .before .none .ensures) at (c .restart .ensures)))
-
-halt-requires : tie.Need-halt-requires
-halt-requires c κs = search needs
 
 returns-2 : tie.Need-returns-2
 returns-2 c = full (c .before .if1 .left) refl (c .halt .ensures)
@@ -46,12 +46,12 @@ fork-spec =
     (tie.spec
     push-requires
     rise-requires
-    add-t18
+    add-t19
     add-restart
     none-requires
     add-restart-2
     restart-requires
+    halt-requires
     same-length
     returns
-    halt-requires
     returns-2)

@@ -17,8 +17,8 @@ push-requires c κs = search needs
 rise-requires : tie.Need-rise-requires
 rise-requires c κs = search needs
 
-add-t22 : tie.Need-add-t22
-add-t22 c = search needs
+add-t24 : tie.Need-add-t24
+add-t24 c = search needs
 
 add-tick : tie.Need-add-tick
 add-tick c = search needs
@@ -26,20 +26,20 @@ add-tick c = search needs
 tick-requires : tie.Need-tick-requires
 tick-requires c κs = rw (c .rise .ensures) (c .before .before .before .before .before .before .before .before .before .before .before .pre .credits, c .before .before .before .before .before .before .before .before .before .before .before .pre .span, c .before .before .before .before .before .before .before .before .before .before .before .pre .transitions)
 
+halt-requires : tie.Need-halt-requires
+halt-requires c κs = search needs
+
+halt-requires-2 : tie.Need-halt-requires-2
+halt-requires-2 c κs = search needs
+
 same-length : tie.Need-same-length
 same-length c = search needs
 
 returns : tie.Need-returns
 returns c = opens (ltb-true _ _ (sym (c .before .before .before .before .before .before .before .before .allows .ensures) ∙ c .before .before .before .before .before .before .before .if1 .taken)) (c .before .before .before .before .before .before .if2 .taken) (c .before .before .before .before .push .ensures) (ap Go (rw (c .before .rise .ensures) at (c .tick .ensures)))
 
-halt-requires : tie.Need-halt-requires
-halt-requires c κs = search needs
-
 returns-2 : tie.Need-returns-2
 returns-2 c = full (ltb-true _ _ (sym (c .before .before .before .allows .ensures) ∙ c .before .before .if1 .taken)) (c .before .if2 .left) refl (c .halt .ensures)
-
-halt-requires-2 : tie.Need-halt-requires-2
-halt-requires-2 c κs = search needs
 
 returns-3 : tie.Need-returns-3
 returns-3 c = dry (ltb-false _ _ (sym (c .before .before .allows .ensures) ∙ c .before .if1 .left)) refl (c .halt2 .ensures)
@@ -51,12 +51,12 @@ open-spec =
     allows-requires
     push-requires
     rise-requires
-    add-t22
+    add-t24
     add-tick
     tick-requires
+    halt-requires
+    halt-requires-2
     same-length
     returns
-    halt-requires
     returns-2
-    halt-requires-2
     returns-3)

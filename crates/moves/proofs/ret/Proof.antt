@@ -7,9 +7,6 @@ use borrow.Author.Needs.{needs}
 use Rattle.moves.proofs.ret.Statement.{statement}
 use Rattle.moves.proofs.ret.Tie as tie
 
-returns : tie.Need-returns
-returns c = stepped-done (c .before .before .before .before .before .args .words .now) (c .before .before .before .before .before .args .ws .now) (c .before .before .before .before .before .args .locals .now) (c .before .before .before .before .before .args .plan) (c .before .before .before .before .before .args .s) _ (c .before .before .before .before .before .pre .1) (c .if1 .taken)
-
 sub-top : tie.Need-sub-top
 sub-top c = search needs
 
@@ -22,44 +19,14 @@ mul-kind-2 c = search needs
 slice-read-kind : tie.Need-slice-read-kind
 slice-read-kind c = search needs
 
-turned-requires : tie.Need-turned-requires
-turned-requires c κs = (record { ready = c .before .before .before .before .before .before .before .before .before .pre .0; is = c .before .before .before .before .before .before .before .before .before .pre .1; depth = omega arith; of-kind = c .before .before .if2 .taken }, c .before .before .before .before .before .before .before .before .before .pre .2)
-
-same-length : tie.Need-same-length
-same-length c = search needs
-
-same-length-2 : tie.Need-same-length-2
-same-length-2 c = search needs
-
-returns-2 : tie.Need-returns-2
-returns-2 c = search needs
-
-joined-requires : tie.Need-joined-requires
-joined-requires c κs = (record { ready = c .before .before .before .before .before .before .before .before .before .before .pre .0; is = c .before .before .before .before .before .before .before .before .before .before .pre .1; depth = omega arith; of-kind = refl }, c .before .before .if3 .taken, c .before .before .before .before .before .before .before .before .before .before .pre .2)
-
-same-length-3 : tie.Need-same-length-3
-same-length-3 c = search needs
-
-same-length-4 : tie.Need-same-length-4
-same-length-4 c = search needs
-
-returns-3 : tie.Need-returns-3
-returns-3 c = search needs
+arrive-requires : tie.Need-arrive-requires
+arrive-requires c κs = (record { ready = c .before .before .before .before .before .before .before .before .before .before .pre .0; is = c .before .before .before .before .before .before .before .before .before .before .pre .1; depth = omega arith; of-kind = refl }, c .before .before .if2 .taken, c .before .before .before .before .before .before .before .before .before .before .pre .2)
 
 allows-requires : tie.Need-allows-requires
 allows-requires c κs = search needs
 
 ret-paid-requires : tie.Need-ret-paid-requires
-ret-paid-requires c κs = (record { ready = c .before .before .before .before .before .before .before .before .before .before .before .before .before .pre .0; is = c .before .before .before .before .before .before .before .before .before .before .before .before .before .pre .1; depth = omega arith; of-kind = refl }, omega arith, ltb-true _ _ (sym (c .before .before .before .allows .ensures) ∙ c .before .before .if4 .taken), c .before .before .before .before .before .before .before .before .before .before .before .before .before .pre .2)
-
-same-length-5 : tie.Need-same-length-5
-same-length-5 c = search needs
-
-same-length-6 : tie.Need-same-length-6
-same-length-6 c = search needs
-
-returns-4 : tie.Need-returns-4
-returns-4 c = search needs
+ret-paid-requires c κs = (record { ready = c .before .before .before .before .before .before .before .before .before .before .before .before .pre .0; is = c .before .before .before .before .before .before .before .before .before .before .before .before .pre .1; depth = omega arith; of-kind = refl }, omega arith, ltb-true _ _ (sym (c .before .before .before .allows .ensures) ∙ c .before .before .if3 .taken), c .before .before .before .before .before .before .before .before .before .before .before .before .pre .2)
 
 mul-index : tie.Need-mul-index
 mul-index c = search needs
@@ -94,31 +61,41 @@ index-requires-2 c κs = search needs
 halt-requires : tie.Need-halt-requires
 halt-requires c κs = search needs
 
-returns-5 : tie.Need-returns-5
-returns-5 c = stepped-dry (c .before .before .before .before .before .before .before .before .before .before .before .before .before .before .before .before .args .words .now) (c .before .before .before .before .before .before .before .before .before .before .before .before .before .before .before .before .args .ws .now) (c .before .before .before .before .before .before .before .before .before .before .before .before .before .before .before .before .args .locals .now) (c .before .before .before .before .before .before .before .before .before .before .before .before .before .before .before .before .args .plan) (c .before .before .before .before .before .before .before .before .before .before .before .before .before .before .before .before .args .s) (c .before .before .before .before .before .before .before .before .before .before .before .before .before .before .before .before .args .v) _ _ (record { ready = c .before .before .before .before .before .before .before .before .before .before .before .before .before .before .before .before .pre .0; is = c .before .before .before .before .before .before .before .before .before .before .before .before .before .before .before .before .pre .1; depth = omega arith; of-kind = refl }) (ltb-false _ _ (sym (c .before .before .before .before .before .before .allows .ensures) ∙ c .before .before .before .before .before .if4 .left)) (omega arith) _ _ (c .before .before .before .index .ensures) (c .before .index2 .ensures) _ (c .halt .ensures)
+returns : tie.Need-returns
+returns c = stepped-done (c .before .before .before .before .before .args .words .now) (c .before .before .before .before .before .args .ws .now) (c .before .before .before .before .before .args .locals .now) (c .before .before .before .before .before .args .plan) (c .before .before .before .before .before .args .s) _ (c .before .before .before .before .before .pre .1) (c .if1 .taken)
+
+same-length : tie.Need-same-length
+same-length c = search needs
+
+same-length-2 : tie.Need-same-length-2
+same-length-2 c = search needs
+
+returns-2 : tie.Need-returns-2
+returns-2 c = search needs
+
+same-length-3 : tie.Need-same-length-3
+same-length-3 c = search needs
+
+same-length-4 : tie.Need-same-length-4
+same-length-4 c = search needs
+
+returns-3 : tie.Need-returns-3
+returns-3 c = search needs
+
+returns-4 : tie.Need-returns-4
+returns-4 c = stepped-dry (c .before .before .before .before .before .before .before .before .before .before .before .before .before .before .before .args .words .now) (c .before .before .before .before .before .before .before .before .before .before .before .before .before .before .before .args .ws .now) (c .before .before .before .before .before .before .before .before .before .before .before .before .before .before .before .args .locals .now) (c .before .before .before .before .before .before .before .before .before .before .before .before .before .before .before .args .plan) (c .before .before .before .before .before .before .before .before .before .before .before .before .before .before .before .args .s) (c .before .before .before .before .before .before .before .before .before .before .before .before .before .before .before .args .v) _ _ (record { ready = c .before .before .before .before .before .before .before .before .before .before .before .before .before .before .before .pre .0; is = c .before .before .before .before .before .before .before .before .before .before .before .before .before .before .before .pre .1; depth = omega arith; of-kind = refl }) (ltb-false _ _ (sym (c .before .before .before .before .before .before .allows .ensures) ∙ c .before .before .before .before .before .if3 .left)) (omega arith) _ _ (c .before .before .before .index .ensures) (c .before .index2 .ensures) _ (c .halt .ensures)
 
 pub ret-spec : {M : Type 1} → statement M
 ret-spec =
     tie.close
     (tie.spec
-    returns
     sub-top
     mul-kind
     mul-kind-2
     slice-read-kind
-    turned-requires
-    same-length
-    same-length-2
-    returns-2
-    joined-requires
-    same-length-3
-    same-length-4
-    returns-3
+    arrive-requires
     allows-requires
     ret-paid-requires
-    same-length-5
-    same-length-6
-    returns-4
     mul-index
     add-index
     mul-index-2
@@ -130,4 +107,11 @@ ret-spec =
     slice-read-index-2
     index-requires-2
     halt-requires
-    returns-5)
+    returns
+    same-length
+    same-length-2
+    returns-2
+    same-length-3
+    same-length-4
+    returns-3
+    returns-4)
