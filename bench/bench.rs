@@ -51,8 +51,8 @@ impl Pair {
         self.fast.run(machine, &j.table, &j.args, fuel, j.period, j.tau, words)
     }
 
-    /// Times one run of each, `calls` times over, and keeps the best of each.
-    fn time(&mut self, best: &mut [f64; 2], machine: u32, j: &Job, fuel: u64, calls: u32) {
+    /// The time of one run of each, one after the other, from so many calls.
+    fn time(&mut self, machine: u32, j: &Job, fuel: u64, calls: u32) -> [f64; 2] {
         let start = now();
         for _ in 0..calls {
             std::hint::black_box(self.proved(machine, j, fuel, WORDS));
@@ -62,7 +62,7 @@ impl Pair {
             std::hint::black_box(self.rust(machine, j, fuel, WORDS));
         }
         let end = now();
-        *best = [best[0].min((between - start) / calls as f64), best[1].min((end - between) / calls as f64)];
+        [(between - start) / calls as f64, (end - between) / calls as f64]
     }
 
     fn agree(&mut self, machine: u32, j: &Job, fuel: u64, words: usize) -> [u64; 8] {
@@ -79,12 +79,13 @@ impl Pair {
 fn agree_on_random(pair: &mut Pair, count: u64) {
     let mut dice = random::Dice(2026);
     for _ in 0..count {
-        let r = match dice.below(10) {
+        let r = match dice.below(11) {
             0 | 1 => random::mutated(&mut dice),
             2 => random::deep(&mut dice),
             3 => random::raw(&mut dice),
             4 => random::settings_out(&mut dice),
             5 => random::edges(&mut dice),
+            6 => random::cut(&mut dice),
             _ => random::well_formed(&mut dice),
         };
         let j = Job { name: "random", table: r.table, args: r.args, fuel: r.fuel, period: r.period, tau: r.tau };
@@ -113,33 +114,37 @@ fn agree_on_job(pair: &mut Pair, j: &Job) -> [[u64; 8]; 3] {
     })
 }
 
-fn rate(count: u64, seconds: f64) -> f64 {
-    count as f64 / seconds / 1e6
+/// What one repeat took: of each machine, by the proved code and by the Rust interpreter.
+type Taken = [[f64; 2]; 3];
+
+fn median(values: impl Iterator<Item = f64>) -> f64 {
+    let mut sorted: Vec<f64> = values.collect();
+    sorted.sort_by(f64::total_cmp);
+    sorted[sorted.len() / 2]
 }
 
-/// The table of rates, and the times of the proved machines.
-fn rates(pair: &mut Pair, all: &[Job], repeats: u32) -> Vec<([[u64; 8]; 3], [[f64; 2]; 3])> {
+/// Million transitions a second, at the best of the repeats.
+fn rate(count: u64, seconds: impl Iterator<Item = f64>) -> f64 {
+    count as f64 / seconds.fold(f64::MAX, f64::min) / 1e6
+}
+
+/// The table of rates, and the answers and times of each job.
+fn rates(pair: &mut Pair, all: &[Job], repeats: u32) -> Vec<([[u64; 8]; 3], Vec<Taken>)> {
     println!("| job | machine | transitions | forks | proved, million transitions/s | Rust, million transitions/s | proved / Rust |");
     println!("|---|---|--:|--:|--:|--:|--:|");
     let mut measured = vec![];
     let mut ratios: [Vec<f64>; 3] = Default::default();
     for j in all {
         let answers = agree_on_job(pair, j);
-        let mut best = [[f64::MAX; 2]; 3];
-        for _ in 0..repeats {
-            for machine in 0..3 {
-                pair.time(&mut best[machine], machine as u32, j, j.fuel, 1);
-            }
-        }
+        let taken: Vec<Taken> = (0..repeats).map(|_| [0, 1, 2].map(|machine| pair.time(machine, j, j.fuel, 1))).collect();
         for machine in 0..3 {
-            let (made, [proved, rust]) = (answers[machine][4], best[machine]);
-            ratios[machine].push(rust / proved);
-            println!(
-                "| {} | {} | {made} | {} | {:.1} | {:.1} | {:.2} |",
-                j.name, MACHINES[machine], answers[machine][5], rate(made, proved), rate(made, rust), rust / proved
-            );
+            let made = answers[machine][4];
+            let [proved, rust] = [0, 1].map(|side| rate(made, taken.iter().map(|t| t[machine][side])));
+            let ratio = median(taken.iter().map(|t| t[machine][1] / t[machine][0]));
+            ratios[machine].push(ratio);
+            println!("| {} | {} | {made} | {} | {proved:.1} | {rust:.1} | {ratio:.2} |", j.name, MACHINES[machine], answers[machine][5]);
         }
-        measured.push((answers, best));
+        measured.push((answers, taken));
     }
     let mean = |r: &[f64]| (r.iter().map(|x| x.ln()).sum::<f64>() / r.len() as f64).exp();
     println!("\nproved / Rust: above 1 the proved code is faster. Geometric mean {:.2}, lowest {:.2};", mean(&ratios.concat()), ratios.concat().iter().fold(f64::MAX, |a, &b| a.min(b)));
@@ -148,35 +153,29 @@ fn rates(pair: &mut Pair, all: &[Job], repeats: u32) -> Vec<([[u64; 8]; 3], [[f6
 }
 
 /// Time of the parallel and the heartbeat machine against the sequential one.
-fn schedules(all: &[Job], measured: &[([[u64; 8]; 3], [[f64; 2]; 3])]) {
+fn schedules(all: &[Job], measured: &[([[u64; 8]; 3], Vec<Taken>)]) {
     println!("\nProved code: time against the sequential machine, per transition (a fork, a change of branch and a join take none), per transition or fork, and of the whole run.\n");
     println!("| job | parallel, per transition | per transition or fork | whole run | heartbeat, per transition | per transition or fork | whole run |");
     println!("|---|--:|--:|--:|--:|--:|--:|");
-    for (j, (answers, best)) in all.iter().zip(measured) {
-        let per = |machine: usize, count: u64| best[machine][0] / count as f64 / (best[0][0] / answers[0][4] as f64);
+    for (j, (answers, taken)) in all.iter().zip(measured) {
         print!("| {}", j.name);
         for machine in [1, 2] {
             let [made, forks] = [answers[machine][4], answers[machine][5]];
-            print!(" | {:.2} | {:.2} | {:.2}", per(machine, made), per(machine, made + forks), best[machine][0] / best[0][0]);
+            let whole = median(taken.iter().map(|t| t[machine][0] / t[0][0]));
+            let per = |count: u64| whole * answers[0][4] as f64 / count as f64;
+            print!(" | {:.2} | {:.2} | {whole:.2}", per(made), per(made + forks));
         }
         println!(" |");
     }
 }
 
-/// Two inputs that differ in one thing: time per transition of the second against the first.
+/// Two inputs that differ in one thing: time per transition of the second against the first. `calls` makes both take about as long.
 fn compare(pair: &mut Pair, what: &str, jobs: [&Job; 2], fuels: [u64; 2], calls: [u32; 2], repeats: u32) {
-    let mut shown = vec![];
-    for machine in 0..3u32 {
-        let made = [0, 1].map(|i| pair.agree(machine, jobs[i], fuels[i], WORDS)[4]);
-        let mut best = [[f64::MAX; 2]; 2];
-        for _ in 0..repeats {
-            for i in 0..2 {
-                pair.time(&mut best[i], machine, jobs[i], fuels[i], calls[i]);
-            }
-        }
-        let per = |i: usize, side: usize| best[i][side] / made[i] as f64;
-        shown.push([0, 1].map(|side| per(1, side) / per(0, side)));
-    }
+    let shown = [0, 1, 2].map(|machine| {
+        let made = [0, 1].map(|i| pair.agree(machine, jobs[i], fuels[i], WORDS)[4] as f64);
+        let taken: Vec<[[f64; 2]; 2]> = (0..repeats).map(|_| [0, 1].map(|i| pair.time(machine, jobs[i], fuels[i], calls[i]))).collect();
+        [0, 1].map(|side| median(taken.iter().map(|t| (t[1][side] / made[1]) / (t[0][side] / made[0]))))
+    });
     for (side, name) in ["proved", "Rust"].iter().enumerate() {
         println!("| {what} | {name} | {:.3} | {:.3} | {:.3} |", shown[0][side], shown[1][side], shown[2][side]);
     }
@@ -187,12 +186,9 @@ fn acceptance(pair: &mut Pair) {
     let j = Job { name: "largest table", table: jobs::largest_table(), args: vec![], fuel: 0, period: 1, tau: 1 };
     assert_eq!((j.table[0], j.table.len()), (64, 1 + 2 * 64 + 4 * 4_000));
     assert_eq!(pair.agree(0, &j, 0, WORDS), [2, 8, 0, 0, 0, 0, 0, 0]);
-    let mut best = [f64::MAX; 2];
-    for _ in 0..40 {
-        pair.time(&mut best, 0, &j, 0, 200);
-    }
-    let [proved, rust] = best.map(|s| s * 1e6);
-    println!("\nTo accept the largest table (64 functions, 4,000 nodes): proved {proved:.1} µs, Rust {rust:.1} µs, proved / Rust in speed {:.2}.", rust / proved);
+    let taken: Vec<[f64; 2]> = (0..100).map(|_| pair.time(0, &j, 0, 200)).collect();
+    let [proved, rust] = [0, 1].map(|side| taken.iter().map(|t| t[side]).fold(f64::MAX, f64::min) * 1e6);
+    println!("\nTo accept the largest table (64 functions, 4,000 nodes), best of {}: proved {proved:.1} µs, Rust {rust:.1} µs, proved / Rust in speed {:.2}.", taken.len(), rust / proved);
 }
 
 fn main() {
@@ -207,6 +203,6 @@ fn main() {
     let [shallow, deep] = [10, 4_000].map(|depth| jobs::deep_plain(depth, 800_000));
     compare(&mut pair, "depth 10, depth 4,000", [&shallow, &deep], [shallow.fuel, deep.fuel], [1, 1], repeats);
     let endless = jobs::fibonacci(60);
-    compare(&mut pair, "10^6, 10^8 transitions", [&endless, &endless], [1_000_000, 100_000_000], [5, 1], if quick { 1 } else { 5 });
+    compare(&mut pair, "10^6, 10^8 transitions", [&endless, &endless], [1_000_000, 100_000_000], [100, 1], if quick { 1 } else { 5 });
     acceptance(&mut pair);
 }
