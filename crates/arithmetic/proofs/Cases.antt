@@ -3,8 +3,7 @@
 use Prim.Native.Nat.{ℕ, _*_, _/_, _<_, _≤_, _^_}
 use mathlib.Core.Path.{_≡_}
 use mathlib.Core.Bool.{cond}
-use native.Mathlib.Nat.{pos-of-ne-zero, le-div-iff-mul-le, div-lt-iff-lt-mul, mul-le-mul-right}
-use native.Mathlib.Omega.{arith}
+use native.Mathlib.Nat.{pos-of-ne-zero, le-div-iff-mul-le, div-lt-iff-lt-mul}
 use lib.Dec.{ltb, eqb}
 use borrow.Author.Tests.{lt-ltb, le-ltb, eq-eqb, ne-eqb}
 use Rattle.arithmetic.specs.declared.Computed.the-variants.{Is, Fails}
@@ -29,9 +28,3 @@ product-within y≢0 h = le-div-iff-mul-le (pos-of-ne-zero y≢0) .0 h
 
 pub product-beyond : {x y m : ℕ} → (y ≡ 0 → ⊥) → m / y < x → m < x * y
 product-beyond y≢0 h = div-lt-iff-lt-mul (pos-of-ne-zero y≢0) .0 h
-
--- two numbers of 32 bits
-pub product-small : (x y : ℕ) → x < 4294967296 → y < 4294967296 → x * y < 2 ^ 64
-product-small x y h k =
-    let narrow : x ≤ 4294967295 = omega (arith, h) in
-    omega (arith, mul-le-mul-right y narrow, k)

@@ -17,9 +17,6 @@ pub enum Computed {
 // The largest value: 01, "Values are unsigned 64-bit numbers".
 const LARGEST: u64 = 18446744073709551615;
 
-// A number below it has at most 32 bits.
-const HALF: u64 = 4294967296;
-
 // A sum fits iff `x` is at most the largest value less `y`.
 fn sum(x: u64, y: u64) -> Computed
     ensures { λ r. ⌜ r ≡ computed Add x y ⌝ }
@@ -42,7 +39,7 @@ fn difference(x: u64, y: u64) -> Computed
 }
 
 // A product fits iff `y` is 0 or `x` is at most the largest value divided by `y`.
-fn any_product(x: u64, y: u64) -> Computed
+fn product(x: u64, y: u64) -> Computed
     ensures { λ r. ⌜ r ≡ computed Multiply x y ⌝ }
 {
     if y == 0 {
@@ -53,18 +50,6 @@ fn any_product(x: u64, y: u64) -> Computed
     } else {
         Computed::Fails(22)
     }
-}
-
-// A product of two numbers below 2^32 fits: no division is needed to tell.
-fn product(x: u64, y: u64) -> Computed
-    ensures { λ r. ⌜ r ≡ computed Multiply x y ⌝ }
-{
-    if x < HALF {
-        if y < HALF {
-            return Computed::Is(x * y);
-        }
-    }
-    any_product(x, y)
 }
 
 fn quotient(x: u64, y: u64) -> Computed
