@@ -57,15 +57,8 @@ impl<'a> Walk<'a> {
         self.body.len() / 4
     }
 
-    /// The tree at `at` and the position after it.
-    fn subtree(&self, at: usize, bound: usize, level: usize) -> Result<(Node, usize), Refusal> {
-        let f = self.function;
-        if at >= self.nodes() {
-            return refuse(4, f, self.nodes());
-        }
-        let w = &self.body[4 * at..4 * at + 4];
-        let (tag, a, b, c) = (w[0], w[1], w[2], w[3]);
-        // the node's own words: 4, then 5, then 6
+    /// What the node's own words are refused by: 4, then 5, then 6.
+    fn own(&self, [tag, a, b, c]: [u32; 4], bound: usize, level: usize) -> Option<u64> {
         let four = match tag {
             0 => c != 0,
             1 => b != 0 || c != 0,
@@ -81,33 +74,47 @@ impl<'a> Walk<'a> {
             6 => a != 0,
             _ => true,
         };
-        if four {
-            return refuse(4, f, at);
-        }
         let five = match tag {
             1 => a as usize >= bound,
             4 => bound + 1 > 16,
             6 => bound + 2 > 16,
             _ => false,
         };
+        if four {
+            return Some(4);
+        }
         if five {
-            return refuse(5, f, at);
+            return Some(5);
         }
-        if level > 64 {
-            return refuse(6, f, at);
-        }
-        // how many locals each child has
-        let scopes: Vec<usize> = match tag {
+        (level > 64).then_some(6)
+    }
+
+    /// How many locals each child has.
+    fn scopes(&self, tag: u32, a: u32, bound: usize) -> Vec<usize> {
+        match tag {
             0 | 1 => vec![],
             2 => vec![bound, bound],
             3 => vec![bound, bound, bound],
             4 => vec![bound, bound + 1],
             5 => vec![bound; self.arities[a as usize]],
             _ => vec![bound, bound, bound + 2],
-        };
+        }
+    }
+
+    /// The tree at `at` and the position after it.
+    fn subtree(&self, at: usize, bound: usize, level: usize) -> Result<(Node, usize), Refusal> {
+        let f = self.function;
+        if at >= self.nodes() {
+            return refuse(4, f, self.nodes());
+        }
+        let w: [u32; 4] = self.body[4 * at..4 * at + 4].try_into().unwrap();
+        let [tag, a, b, c] = w;
+        if let Some(number) = self.own(w, bound, level) {
+            return refuse(number, f, at);
+        }
         let mut children = Vec::new();
         let mut next = at + 1;
-        for (i, scope) in scopes.iter().enumerate() {
+        for (i, scope) in self.scopes(tag, a, bound).iter().enumerate() {
             if i == 1 && b as usize != next || i == 2 && c as usize != next {
                 return refuse(4, f, at);
             }
@@ -115,18 +122,21 @@ impl<'a> Walk<'a> {
             children.push(child);
             next = after;
         }
-        let mut it = children.into_iter();
-        let mut one = || Box::new(it.next().unwrap());
-        let kind = match tag {
-            0 => Kind::Constant(a as u64 + b as u64 * 4_294_967_296),
-            1 => Kind::Local(a as usize),
-            2 => Kind::Arithmetic(a, one(), one()),
-            3 => Kind::Choose(one(), one(), one()),
-            4 => Kind::Let(one(), one()),
-            5 => Kind::Call(a as usize, it.collect()),
-            _ => Kind::Both(one(), one(), one()),
-        };
-        Ok((Node { function: f, at, kind }, next))
+        Ok((Node { function: f, at, kind: kind(tag, a, b, children) }, next))
+    }
+}
+
+fn kind(tag: u32, a: u32, b: u32, children: Vec<Node>) -> Kind {
+    let mut it = children.into_iter();
+    let mut one = || Box::new(it.next().unwrap());
+    match tag {
+        0 => Kind::Constant(a as u64 + b as u64 * 4_294_967_296),
+        1 => Kind::Local(a as usize),
+        2 => Kind::Arithmetic(a, one(), one()),
+        3 => Kind::Choose(one(), one(), one()),
+        4 => Kind::Let(one(), one()),
+        5 => Kind::Call(a as usize, it.collect()),
+        _ => Kind::Both(one(), one(), one()),
     }
 }
 
@@ -383,78 +393,82 @@ impl<'j> World<'j> {
     // -- one counted transition of a machine with an explicit stack
     fn transition(&mut self, state: State<'j>, stack: &mut Vec<Frame<'j>>) -> Result<State<'j>, Stop> {
         let next = match state {
-            Evaluate(node, locals) => {
-                self.need_fuel(node)?;
-                match &node.kind {
-                    Kind::Constant(v) => Return(*v),
-                    Kind::Local(s) => Return(locals[*s]),
-                    Kind::Call(f, xs) if xs.is_empty() => Evaluate(&self.job.bodies[*f], Rc::new(vec![])),
-                    opens => {
-                        self.open(node)?;
-                        let l = locals.clone();
-                        let (frame, first) = match opens {
-                            Kind::Arithmetic(_, x, _) => (Frame::Left(node, l), &**x),
-                            Kind::Choose(x, _, _) => (Frame::Choose(node, l), &**x),
-                            Kind::Let(x, _) => (Frame::Let(node, l), &**x),
-                            Kind::Call(_, xs) => (Frame::Call(node, l, vec![]), &xs[0]),
-                            Kind::Both(x, _, _) => (Frame::BothLeft(node, l), &**x),
-                            _ => unreachable!(),
-                        };
-                        stack.push(frame);
-                        Evaluate(first, locals)
-                    }
-                }
-            }
-            Return(v) => {
-                let frame = stack.pop().expect("a frame");
-                let at = match &frame {
-                    Frame::Left(n, _) | Frame::Right(n, _) | Frame::Choose(n, _) | Frame::Let(n, _)
-                    | Frame::Call(n, _, _) | Frame::BothLeft(n, _) | Frame::BothRight(n, _, _) => *n,
-                };
-                self.need_fuel(at)?;
-                match (frame, &at.kind) {
-                    (Frame::Left(_, locals), Kind::Arithmetic(_, _, r)) => {
-                        stack.push(Frame::Right(at, v));
-                        Evaluate(r, locals)
-                    }
-                    (Frame::Right(_, x), Kind::Arithmetic(op, _, _)) => {
-                        let z = arithmetic(*op, x, v, at)?;
-                        self.occupied -= 1;
-                        Return(z)
-                    }
-                    (Frame::Choose(_, locals), Kind::Choose(_, yes, no)) => {
-                        self.occupied -= 1;
-                        Evaluate(if v != 0 { yes } else { no }, locals)
-                    }
-                    (Frame::Let(_, locals), Kind::Let(_, second)) => {
-                        self.occupied -= 1;
-                        Evaluate(second, with(&locals, &[v]))
-                    }
-                    (Frame::Call(_, locals, mut values), Kind::Call(f, xs)) => {
-                        values.push(v);
-                        if values.len() < xs.len() {
-                            let x = &xs[values.len()];
-                            stack.push(Frame::Call(at, locals.clone(), values));
-                            Evaluate(x, locals)
-                        } else {
-                            self.occupied -= 1;
-                            Evaluate(&self.job.bodies[*f], Rc::new(values))
-                        }
-                    }
-                    (Frame::BothLeft(_, locals), Kind::Both(_, r, _)) => {
-                        stack.push(Frame::BothRight(at, locals.clone(), v));
-                        Evaluate(r, locals)
-                    }
-                    (Frame::BothRight(_, locals, x), Kind::Both(_, _, body)) => {
-                        self.occupied -= 1;
-                        Evaluate(body, with(&locals, &[x, v]))
-                    }
-                    _ => unreachable!(),
-                }
-            }
+            Evaluate(node, locals) => self.evaluated(node, locals, stack)?,
+            Return(v) => self.returned(v, stack)?,
         };
         self.made += 1;
         Ok(next)
+    }
+
+    fn evaluated(&mut self, node: &'j Node, locals: Locals, stack: &mut Vec<Frame<'j>>) -> Result<State<'j>, Stop> {
+        self.need_fuel(node)?;
+        Ok(match &node.kind {
+            Kind::Constant(v) => Return(*v),
+            Kind::Local(s) => Return(locals[*s]),
+            Kind::Call(f, xs) if xs.is_empty() => Evaluate(&self.job.bodies[*f], Rc::new(vec![])),
+            opens => {
+                self.open(node)?;
+                let l = locals.clone();
+                let (frame, first) = match opens {
+                    Kind::Arithmetic(_, x, _) => (Frame::Left(node, l), &**x),
+                    Kind::Choose(x, _, _) => (Frame::Choose(node, l), &**x),
+                    Kind::Let(x, _) => (Frame::Let(node, l), &**x),
+                    Kind::Call(_, xs) => (Frame::Call(node, l, vec![]), &xs[0]),
+                    Kind::Both(x, _, _) => (Frame::BothLeft(node, l), &**x),
+                    _ => unreachable!(),
+                };
+                stack.push(frame);
+                Evaluate(first, locals)
+            }
+        })
+    }
+
+    fn returned(&mut self, v: u64, stack: &mut Vec<Frame<'j>>) -> Result<State<'j>, Stop> {
+        let frame = stack.pop().expect("a frame");
+        let at = match &frame {
+            Frame::Left(n, _) | Frame::Right(n, _) | Frame::Choose(n, _) | Frame::Let(n, _)
+            | Frame::Call(n, _, _) | Frame::BothLeft(n, _) | Frame::BothRight(n, _, _) => *n,
+        };
+        self.need_fuel(at)?;
+        Ok(match (frame, &at.kind) {
+            (Frame::Left(_, locals), Kind::Arithmetic(_, _, r)) => {
+                stack.push(Frame::Right(at, v));
+                Evaluate(r, locals)
+            }
+            (Frame::Right(_, x), Kind::Arithmetic(op, _, _)) => {
+                let z = arithmetic(*op, x, v, at)?;
+                self.occupied -= 1;
+                Return(z)
+            }
+            (Frame::Choose(_, locals), Kind::Choose(_, yes, no)) => {
+                self.occupied -= 1;
+                Evaluate(if v != 0 { yes } else { no }, locals)
+            }
+            (Frame::Let(_, locals), Kind::Let(_, second)) => {
+                self.occupied -= 1;
+                Evaluate(second, with(&locals, &[v]))
+            }
+            (Frame::Call(_, locals, mut values), Kind::Call(f, xs)) => {
+                values.push(v);
+                if values.len() < xs.len() {
+                    let x = &xs[values.len()];
+                    stack.push(Frame::Call(at, locals.clone(), values));
+                    Evaluate(x, locals)
+                } else {
+                    self.occupied -= 1;
+                    Evaluate(&self.job.bodies[*f], Rc::new(values))
+                }
+            }
+            (Frame::BothLeft(_, locals), Kind::Both(_, r, _)) => {
+                stack.push(Frame::BothRight(at, locals.clone(), v));
+                Evaluate(r, locals)
+            }
+            (Frame::BothRight(_, locals, x), Kind::Both(_, _, body)) => {
+                self.occupied -= 1;
+                Evaluate(body, with(&locals, &[x, v]))
+            }
+            _ => unreachable!(),
+        })
     }
 
     // -- the parallel judgment
