@@ -2,8 +2,10 @@
 use Prim.Native.Nat.{ℕ, _+_, _*_}
 use mathlib.Core.Path.{_≡_, refl, sym, ap, _∙_}
 use mathlib.Core.List.{List}
+use native.Mathlib.Omega.{arith}
 use lib.ListN.{length}
 use Rattle.table.specs.declared.Refusal.{Refusal}
+use Rattle.table.specs.declared.Reading.{Reading}
 use Rattle.table.specs.declared.Reading.the-variants as reading
 use Rattle.schedule.specs.Graph.{Graph, work, span}
 use Rattle.schedule.specs.Algebra.{graphs, spans}
@@ -14,10 +16,11 @@ use Rattle.schedule.specs.Homomorphism.{map-state, map-outcome}
 use Rattle.schedule.proofs.WorkCount.{work-counted}
 use Rattle.schedule.proofs.Homomorphism.{spans-told}
 use Rattle.schedule.proofs.Finish.{finishes}
+use Rattle.language.specs.declared.Answer.{Answer}
 use Rattle.language.specs.declared.Answer.the-variants.{Value, Refused}
 use Rattle.language.specs.Language.{Code, language}
 use Rattle.language.specs.Checks.{framesIn, checkedOf}
-use Rattle.language.specs.Answers.{entry, countsOf, toldBy, toldBySpans, afterCheck, runOf, answerOf}
+use Rattle.language.specs.Answers.{entry, countsOf, toldBy, toldBySpans, afterCheck, runOf, answerOf, RefusedAlike}
 
 module _ (w : List ℕ) (fuel frames τ : ℕ) (m : Schedule) (c : Code) where
   abbrev ran : Result graphs (language w)
@@ -61,3 +64,21 @@ module _ (m : Schedule) (w arguments : List ℕ) (fuel N τ workspace : ℕ) whe
   run-ends =
       let e = finishes graphs (language w) fuel (framesIn workspace) m (entry arguments) in
       (e .0, e .1 .cost, e .1 .counts, ap (toldBy τ) (e .1 .is))
+
+-- a run answers no refusal
+ran-unrefused : {X : Type 0} (τ : ℕ) (o : machine.Outcome Graph X) (r : Refusal) → toldBy τ o ≡ Refused r → ⊥
+unfolding toldBy
+ran-unrefused τ (ended (value v) g t) r e = let z : _≡_ {A = ℕ} 0 1 = cc in absurd (omega arith)
+ran-unrefused τ (ended (stop i p) g t) r e = let z : _≡_ {A = ℕ} 0 1 = cc in absurd (omega arith)
+ran-unrefused τ (ongoing s) r e = let z : _≡_ {A = ℕ} 0 1 = cc in absurd (omega arith)
+
+after-alike : (c : Reading) (a b : Answer) (r : Refusal) → (a ≡ Refused r → ⊥) → afterCheck c a ≡ Refused r → afterCheck c b ≡ Refused r
+unfolding afterCheck
+after-alike reading.Accepted a b r never e = absurd (never e)
+after-alike (reading.Refused q) a b r never e = e
+
+pub refused-alike : RefusedAlike
+unfolding answerOf runOf
+refused-alike m n w arguments fuel N τ workspace r =
+    after-alike (checkedOf w (length arguments) fuel N τ workspace) (runOf m w arguments fuel τ workspace) (runOf n w arguments fuel τ workspace) r
+    (ran-unrefused τ (outcome graphs (language w) fuel (framesIn workspace) m (entry arguments)) r)

@@ -2,6 +2,7 @@
 -- answer is an enum, a definition gives this paper's number and values for each of its cases, and the promises use that definition": it
 -- is `answerOf`.
 use Prim.Native.Nat.{ℕ, _+_, _*_}
+use mathlib.Core.Path.{_≡_}
 use mathlib.Core.List.{List}
 use lib.ListN.{length}
 use Rattle.schedule.specs.Graph.{Graph, work, span}
@@ -9,6 +10,7 @@ use Rattle.schedule.specs.Algebra.{graphs}
 use Rattle.schedule.specs.FrameMachine.{Place}
 use Rattle.schedule.specs.Machine.{value, stop, Outcome, ended, ongoing, Schedule, sequential, parallel, heartbeat}
 use Rattle.schedule.specs.Runs.{outcome}
+use Rattle.table.specs.declared.Refusal.{Refusal}
 use Rattle.table.specs.declared.Reading.{Reading}
 use Rattle.table.specs.declared.Reading.the-variants as reading
 use Rattle.language.specs.declared.Counts.{Counts}
@@ -75,3 +77,9 @@ parallelOf = answerOf parallel
 
 abbrev pub heartbeatOf : Machine
 heartbeatOf w arguments fuel N τ workspace = answerOf (heartbeat N) w arguments fuel N τ workspace
+
+-- THEOREM (proofs/Told.antt, `refused-alike`): a refusal is of the input and not of a machine. Where one machine answers it, so does every
+-- other: "All three machines check all eleven."
+abbrev pub RefusedAlike : Type 0
+RefusedAlike = (m n : Schedule) (w arguments : List ℕ) (fuel N τ workspace : ℕ) (r : Refusal)
+    → answerOf m w arguments fuel N τ workspace ≡ Refused r → answerOf n w arguments fuel N τ workspace ≡ Refused r

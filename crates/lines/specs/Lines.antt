@@ -54,7 +54,7 @@ stopLine s =
     ++ (tagged " node " (s .node)
     ++ (tagged " transitions " (s .transitions) ++ newline)))
 
--- what follows a machine's name; no report has the last of these, since its first machine is refused then
+-- what follows a machine's name; no report has the last of these, since its first machine is refused then, too
 unfoldable pub answerLine : Answer → List ℕ
 answerLine (Value v counts) = valueLine v counts
 answerLine (Stopped s) = stopLine s
@@ -74,7 +74,7 @@ machineLines sequential parallel heartbeat =
     ++ ((ascii "parallel" ++ answerLine parallel)
     ++ ((ascii "heartbeat" ++ answerLine heartbeat) ++ breadthLine parallel))
 
--- THE REPORT of three answers. "A refusal prints one line"; all three machines refuse alike
+-- THE REPORT of three answers. "A refusal prints one line", and it tells all three: they refuse alike (crate language, `RefusedAlike`)
 unfoldable pub reportLines : Answer → Answer → Answer → List ℕ
 reportLines (Value v counts) parallel heartbeat = machineLines (Value v counts) parallel heartbeat
 reportLines (Stopped s) parallel heartbeat = machineLines (Stopped s) parallel heartbeat
