@@ -2,19 +2,17 @@
 //! Before any time is taken both must give the same answers; the program fails if they differ.
 mod fast;
 mod jobs;
+#[path = "../tests/second/library.rs"]
+mod library;
 #[allow(dead_code)]
 #[path = "../tests/second/jobs.rs"]
 mod random;
 
 use fast::Interpreter;
 use jobs::Job;
+use library::mondupil_run;
 
 extern "C" {
-    fn mondupil_run(
-        machine: u32, table: *const u32, table_len: usize, args: *const u64, args_len: usize,
-        fuel: u64, period: u64, tau: u64,
-        workspace: *mut u64, workspace_len: usize, answer: *mut u64, answer_len: usize,
-    ) -> u32;
     fn clock_gettime(clock: i32, time: *mut [i64; 2]) -> i32;
 }
 

@@ -2,23 +2,17 @@
 //! implementation. compare [jobs [seed]]: so many jobs from the fixed seed and from a fresh one, or from the seed given.
 mod inputs;
 mod jobs;
+mod library;
 mod program;
 mod report;
 mod second;
 mod settled;
 
 use jobs::{Dice, Input};
+use library::mondupil_run;
 use program::{Reports, Tally};
 use second::Machine::{self, *};
 use std::collections::{BTreeMap, BTreeSet};
-
-extern "C" {
-    fn mondupil_run(
-        machine: u32, table: *const u32, table_len: usize, args: *const u64, args_len: usize,
-        fuel: u64, period: u64, tau: u64,
-        workspace: *mut u64, workspace_len: usize, answer: *mut u64, answer_len: usize,
-    ) -> u32;
-}
 
 fn proved(m: u32, j: &Input, ws: &mut [u64], answer: &mut [u64]) -> u32 {
     unsafe {

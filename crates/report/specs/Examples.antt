@@ -4,7 +4,7 @@ use Prim.Native.Nat.{ℕ, _/_, _%_}
 use Prim.Native.String.{String}
 use mathlib.Core.Path.{_≡_}
 use mathlib.Core.List.{List, [], _∷_, _++_}
-use Rattle.language.specs.Settled.{tableA}
+use Rattle.language.specs.Settled.{tableA, endless}
 use Rattle.lines.specs.Lines.{ascii}
 use Rattle.report.specs.Report.{reportOf}
 
@@ -18,6 +18,13 @@ unfoldable pub bytesOf : List ℕ → List ℕ
 bytesOf [] = []
 bytesOf (n ∷ w) = (n % 256) ∷ (n / 256 % 256) ∷ (n / 65536 % 256) ∷ (n / 16777216) ∷ bytesOf w
 
+-- a function of two arguments that gives one of them
+unfoldable pub local : ℕ → List ℕ
+local slot =
+    1 ∷ 2 ∷ 1
+    ∷ 1 ∷ slot ∷ 0 ∷ 0
+    ∷ []
+
 -- fuel, N, τ and table A, with no arguments
 unfoldable pub onA : ℕ → ℕ → ℕ → List ℕ
 onA fuel N τ = bytesOf (fuel ∷ N ∷ τ ∷ 0 ∷ tableA)
@@ -30,6 +37,11 @@ rows =
     ∷ record { input = onA 0 0 0; report = "sequential value 4 work 11 span 11 forks 0\nparallel value 4 work 105 span 103 forks 2\nheartbeat value 4 work 11 span 11 forks 0\nbreadth 1\n" }
     -- 01's stop, as an example of its line; the others have fuel enough
     ∷ record { input = onA 10 3 2; report = "sequential stop 20 function 0 node 6 transitions 10\nparallel value 4 work 9 span 7 forks 2\nheartbeat value 4 work 11 span 10 forks 1\nbreadth 1\n" }
+    -- a function that calls itself for ever: all three stop, and there is no breadth
+    ∷ record { input = bytesOf (7 ∷ 3 ∷ 2 ∷ 0 ∷ endless); report = "sequential stop 20 function 0 node 0 transitions 7\nparallel stop 20 function 0 node 0 transitions 7\nheartbeat stop 20 function 0 node 0 transitions 7\nbreadth none\n" }
+    -- two arguments, 5 + 2 · 2^32 and 640, "each argument as low then high word"
+    ∷ record { input = bytesOf (0 ∷ 0 ∷ 0 ∷ 2 ∷ 5 ∷ 2 ∷ 640 ∷ 0 ∷ local 0); report = "sequential value 8589934597 work 1 span 1 forks 0\nparallel value 8589934597 work 1 span 1 forks 0\nheartbeat value 8589934597 work 1 span 1 forks 0\nbreadth 1\n" }
+    ∷ record { input = bytesOf (0 ∷ 0 ∷ 0 ∷ 2 ∷ 5 ∷ 2 ∷ 640 ∷ 0 ∷ local 1); report = "sequential value 640 work 1 span 1 forks 0\nparallel value 640 work 1 span 1 forks 0\nheartbeat value 640 work 1 span 1 forks 0\nbreadth 1\n" }
     -- "N not 1 to 10,000"
     ∷ record { input = onA 100 10001 2; report = "refused 9 function 0 node 0\n" }
     -- "too short for its first four words", "not whole words", "with more than 3 of them": refusal 1
