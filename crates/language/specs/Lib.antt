@@ -1,9 +1,11 @@
--- What a reader of this crate must believe: the job language, the check of the input, the answers of the three machines, demand 3 about
--- them, and the settled runs.
+-- What a reader of this crate must believe: the job language, the check of the input, the answers of the three machines, what every stop tells,
+-- demand 3 about the answers, and the settled runs.
 pub mod Language
+pub mod Places
 pub mod Checks
 pub mod Admitted
 pub mod Answers
+pub mod Stops
 pub mod Claim
 pub mod Settled
 pub mod Examples

@@ -98,7 +98,7 @@ module _ (M : FrameMachine) (c : M .Code) where
   into parallel v g d = of-par 0 d
   into (heartbeat N) v g d = of-hb d
 
-  out : (m : Schedule) (v : ℕ) (g : CostGraph) (k p : ℕ) → Eval M m (evaluate c) [] 0 v g k p
+  pub out : (m : Schedule) (v : ℕ) (g : CostGraph) (k p : ℕ) → Eval M m (evaluate c) [] 0 v g k p
       → Converted (published M m c .Derives v g) (λ d. published M m c .transitions d) (λ d. published M m c .frames d) k p
   out sequential v g k p e = to-seq e
   out parallel v g k p e = to-par e

@@ -27,7 +27,7 @@ forks-alike : (below : ℕ) {k1 k2 k3 p1 p2 p3 k1' k2' k3' p1' p2' p3' : ℕ} �
 forks-alike below a b c d e f = (omega arith, omega arith)
 
 -- HBSTEP's premise is that no promotion is due.
-not-due : (N n : ℕ) (able : Bool) → (n < N) ⊎ (able ≡ false) → leb N n && able ≡ false
+pub not-due : (N n : ℕ) (able : Bool) → (n < N) ⊎ (able ≡ false) → leb N n && able ≡ false
 not-due N n able (inl h) = rw (lt-leb N n h)
 not-due N n able (inr h) = rw h (on (leb N n))
   where
@@ -35,7 +35,7 @@ not-due N n able (inr h) = rw h (on (leb N n))
     on true = refl
     on false = refl
 
-due-not : (N n : ℕ) (able : Bool) → leb N n && able ≡ false → (n < N) ⊎ (able ≡ false)
+pub due-not : (N n : ℕ) (able : Bool) → leb N n && able ≡ false → (n < N) ⊎ (able ≡ false)
 due-not N n able e = on (leb N n) refl e
   where
     on : (q : Bool) → leb N n ≡ q → q && able ≡ false → (n < N) ⊎ (able ≡ false)

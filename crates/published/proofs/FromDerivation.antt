@@ -23,7 +23,7 @@ module _ (M : FrameMachine) (fuel frames : ℕ) (m : Schedule) where
     stay : {s : State graphs M} → Leads s s
     on : {s u w : State graphs M} → step graphs M fuel frames m s ≡ ongoing u → Leads u w → Leads s w
 
-  onto : {s u w : State graphs M} → Leads s u → Leads u w → Leads s w
+  pub onto : {s u w : State graphs M} → Leads s u → Leads u w → Leads s w
   onto stay b = b
   onto (on e a) b = on e (onto a b)
 
@@ -156,7 +156,7 @@ module _ (M : FrameMachine) (fuel frames : ℕ) (m : Schedule) where
         (s .to R hr (transition h) (a .t') (omega arith) (omega arith) (omega arith)) (omega arith) (omega arith) (omega arith);
   }
 
-  fork-move : (c d : M .Code) (b : M .Fork) (X : Stack graphs M) (n : ℕ) (h : Graph) (t : Counts) → promoted-at-birth m ≡ true
+  pub fork-move : (c d : M .Code) (b : M .Fork) (X : Stack graphs M) (n : ℕ) (h : Graph) (t : Counts) → promoted-at-birth m ≡ true
       → M .next c ≡ open-fork b d → length X < frames
       → step graphs M fuel frames m (state (evaluate c) X n h t) ≡ ongoing
       (state (evaluate d) (promoted-left h b ∷ X) 0 empty (deeper (length X + 1) (split t)))

@@ -19,7 +19,7 @@ use Rattle.published.proofs.CostGraph.{_▹_}
 use Rattle.published.proofs.Schedules.{Eval, by-value, by-step, by-fork, by-promotion, _⊕_, length-over, promotable-over, tall}
 use Rattle.published.proofs.FromDerivation.{arrive-left, arrive-right, promote-move}
 
-and-no : (q : Bool) → q && false ≡ false
+pub and-no : (q : Bool) → q && false ≡ false
 and-no true = refl
 and-no false = refl
 

@@ -8,3 +8,8 @@ pub mod Deterministic
 pub mod Adequacy
 pub mod Sequentially
 pub mod Theorems
+pub mod Stopping
+pub mod FromStop
+pub mod ValueOrStop
+pub mod StopConversion
+pub mod Stops

@@ -4,3 +4,5 @@ pub mod Judgments
 pub mod Resources
 pub mod Adequacy
 pub mod Theorems
+pub mod Stops
+pub mod StopTheorems

@@ -9,21 +9,26 @@ use Rattle.table.specs.declared.Reading.{Reading}
 use Rattle.table.specs.declared.Reading.the-variants as reading
 use Rattle.schedule.specs.Graph.{Graph, work, span}
 use Rattle.schedule.specs.Algebra.{graphs}
+use Rattle.schedule.specs.FrameMachine.{Place}
 use Rattle.schedule.specs.Machine as machine
 use Rattle.schedule.specs.Machine.{value, stop, Result, ended, ongoing, Schedule, sequential, parallel, heartbeat}
 use Rattle.schedule.specs.Runs.{outcome}
+use Rattle.schedule.proofs.Finish.{finishes}
 use Rattle.language.specs.declared.Counts.{Counts}
 use Rattle.language.specs.declared.Stop.{Stop}
 use Rattle.language.specs.declared.Answer.{Answer}
 use Rattle.language.specs.declared.Answer.the-variants.{Value, Stopped, Refused}
 use Rattle.language.specs.Language.{language}
 use Rattle.language.specs.Checks.{framesIn, checkedOf}
-use Rattle.language.specs.Answers.{entry, countsOf, toldBy, afterCheck, runOf, answerOf}
+use Rattle.language.specs.Answers.{entry, countsOf, stopped, toldBy, afterCheck, runOf, answerOf}
+use Rattle.language.proofs.Stops.{stop-of}
 use Rattle.published.specs.CostGraph.{work-of, span-of, fork-count, flat}
 use Rattle.published.specs.Adequacy.{Judgment, Reaches, Told}
+use Rattle.published.specs.StopTheorems.{StopsSo}
 use Rattle.published.proofs.CostGraph.{work-flat, span-flat}
 use Rattle.published.proofs.Adequacy.{adequate, stop-reaches-none}
-use Rattle.published_answers.specs.Answers.{judged, Counted, Published, DemandTwo}
+use Rattle.published.proofs.Stops.{stop-iff-derived}
+use Rattle.published_answers.specs.Answers.{judged, Counted, placeOf, stops-judged, Published, DemandTwo}
 
 -- The counts of an answer that has a value.
 counts-of : Counts → Answer → Counts
@@ -77,6 +82,37 @@ module _ (m : Schedule) (w arguments : List ℕ) (fuel τ workspace : ℕ) where
       let no : _≡_ {A = ℕ} 0 1 = cc in
       omega arith
 
+module _ (m : Schedule) (w arguments : List ℕ) (fuel τ workspace : ℕ) where
+  abbrev Derives : Stop → Type 0
+  Derives s = stops-judged m w arguments fuel (framesIn workspace) s
+
+  abbrev ends-here : Result graphs (language w)
+  ends-here = outcome graphs (language w) fuel (framesIn workspace) m (entry arguments)
+
+  named : {g : Graph} {t : machine.Counts} (s : Stop) (i : ℕ) (p : Place) → ends-here ≡ ended (stop i p) g t
+      → _≡_ {A = Stop} (record { number = i; function = p .function; node = p .node; transitions = t .transitions }) s → Derives s
+  named {g} {t} s i p e q =
+      let a : StopsSo ends-here i p (t .transitions) = record { ends = record { cost = g; counts = t; is = e }; transitions-are = refl } in
+      let told : StopsSo ends-here (s .number) (placeOf s) (s .transitions)
+      = rw (ap (λ x. x .number) q, ap placeOf q, ap (λ x. x .transitions) q) at a in
+      stop-iff-derived (language w) fuel (framesIn workspace) m (entry arguments) (s .number) (placeOf s) (s .transitions) .0 told
+
+  stop-from-run : (s : Stop) (o : Result graphs (language w)) → ends-here ≡ o → toldBy τ o ≡ Stopped s → Derives s
+  unfolding toldBy stop-of
+  stop-from-run s (ended (value u) g t) e q = let no : _≡_ {A = ℕ} 0 1 = cc in absurd (omega arith)
+  stop-from-run s (ended (stop i p) g t) e q = named s i p e (ap (stop-of s) q)
+  stop-from-run s (ongoing u) e q =
+      let z = finishes graphs (language w) fuel (framesIn workspace) m (entry arguments) in
+      let k = z .1 .is in
+      let no : _≡_ {A = ℕ} 0 1 = cc in
+      absurd (omega arith)
+
+  stop-to-run : (s : Stop) → Derives s → toldBy τ ends-here ≡ Stopped s
+  unfolding toldBy
+  stop-to-run s d =
+      let a = stop-iff-derived (language w) fuel (framesIn workspace) m (entry arguments) (s .number) (placeOf s) (s .transitions) .1 d in
+      ap (toldBy τ) (a .ends .is) ∙ ap (stopped (s .number) (placeOf s)) (a .transitions-are)
+
 module _ (m : Schedule) (w arguments : List ℕ) (fuel N τ workspace : ℕ) where
   abbrev ran-by : Answer
   ran-by = runOf m w arguments fuel τ workspace
@@ -95,10 +131,17 @@ module _ (m : Schedule) (w arguments : List ℕ) (fuel N τ workspace : ℕ) whe
   none-checked s reading.Accepted e q = none-reached m w arguments fuel τ workspace s _ refl q
   none-checked s (reading.Refused r) e q = λ v d. let no : _≡_ {A = ℕ} 0 1 = cc in omega arith
 
+  stop-from-check : (s : Stop) (r : Reading) → checkedOf w (length arguments) fuel N τ workspace ≡ r → afterCheck r ran-by ≡ Stopped s
+      → (checkedOf w (length arguments) fuel N τ workspace ≡ reading.Accepted) × stops-judged m w arguments fuel (framesIn workspace) s
+  unfolding afterCheck runOf
+  stop-from-check s reading.Accepted e q = (e, stop-from-run m w arguments fuel τ workspace s _ refl q)
+  stop-from-check s (reading.Refused r) e q = let no : _≡_ {A = ℕ} 0 1 = cc in absurd (omega arith)
+
   pub by-schedule : Published m w arguments fuel N τ workspace (answerOf m w arguments fuel N τ workspace)
   unfolding answerOf afterCheck runOf
   by-schedule = record {
     value-iff = λ v k. (λ e. from-check v k _ refl e, λ c. rw (c .0) (to-run m w arguments fuel τ workspace v k (c .1)));
+    stop-iff = λ s. (λ e. stop-from-check s _ refl e, λ c. rw (c .0) (stop-to-run m w arguments fuel τ workspace s (c .1)));
     stop-none = λ s e. none-checked s _ refl e;
   }
 

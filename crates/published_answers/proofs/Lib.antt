@@ -1,3 +1,4 @@
 -- The proof of what specs/ states.
 pub mod Answers
 mod Example
+mod StopExample

@@ -1,12 +1,14 @@
 -- DEMAND 2, as a reader of document 004 can check it. Each machine answers a value iff it accepts its input and the figure's judgment derives that
--- value within the fuel and the frames of the workspace; the counts in the answer are those of the derivation and of its cost graph; and where it
--- answers a stop, the judgment derives nothing within them. The judgments are in crate `published`, specs/Judgments.antt, rule by rule.
+-- value within the fuel and the frames of the workspace; the counts in the answer are those of the derivation and of its cost graph. It answers a stop
+-- iff it accepts its input and the rules of stops beside that figure derive its number, its place and its transitions; and where it answers a stop, the
+-- judgment derives nothing within them. Judgments and stops are in crate `published`, specs/Judgments.antt and specs/Stops.antt, rule by rule.
 use Prim.Native.Nat.{ℕ}
 use mathlib.Core.Path.{_≡_}
 use mathlib.Core.List.{List}
 use mathlib.Core.Logic.{_↔_}
 use lib.ListN.{length}
 use Rattle.table.specs.declared.Reading.the-variants as reading
+use Rattle.schedule.specs.FrameMachine.{Place}
 use Rattle.schedule.specs.Machine.{Schedule, sequential, parallel, heartbeat}
 use Rattle.language.specs.declared.Counts.{Counts}
 use Rattle.language.specs.declared.Stop.{Stop}
@@ -17,6 +19,7 @@ use Rattle.language.specs.Checks.{framesIn, checkedOf}
 use Rattle.language.specs.Answers.{entry, countsOf, sequentialOf, parallelOf, heartbeatOf}
 use Rattle.published.specs.CostGraph.{work-of, span-of, fork-count}
 use Rattle.published.specs.Adequacy.{Judgment, published, Reaches}
+use Rattle.published.specs.StopTheorems.{stops}
 
 -- The judgment of a schedule at a table's entry: Figure 4, 5 or 6.
 abbrev pub judged : Schedule → List ℕ → List ℕ → Judgment
@@ -28,11 +31,21 @@ pub record Counted (J : Judgment) (fuel frames τ v : ℕ) (k : Counts) : Type 0
   pub counts-are : k ≡ countsOf (J .transitions (reaches .derivation)) (fork-count (reaches .graph)) (work-of τ (reaches .graph))
       (span-of τ (reaches .graph))
 
+-- The place that a stop names, and the derivation of a stop at a table's entry. 01: "The answer is the number, function, node and transitions made."
+abbrev pub placeOf : Stop → Place
+placeOf s = record { function = s .function; node = s .node }
+
+abbrev pub stops-judged : Schedule → List ℕ → List ℕ → (fuel frames : ℕ) → Stop → Type 0
+stops-judged m w arguments fuel frames s = stops (language w) m (entry arguments) fuel frames (s .number) (placeOf s) (s .transitions)
+
 -- An answer r is that of a schedule's judgment.
 pub record Published (m : Schedule) (w arguments : List ℕ) (fuel N τ workspace : ℕ) (r : Answer) : Type 0 where
   pub value-iff : (v : ℕ) (k : Counts) → (r ≡ Value v k)
       ↔ ((checkedOf w (length arguments) fuel N τ workspace ≡ reading.Accepted)
       × Counted (judged m w arguments) fuel (framesIn workspace) τ v k)
+  pub stop-iff : (s : Stop)
+      → (r ≡ Stopped s) ↔ ((checkedOf w (length arguments) fuel N τ workspace ≡ reading.Accepted)
+      × stops-judged m w arguments fuel (framesIn workspace) s)
   pub stop-none : (s : Stop) → r ≡ Stopped s → (v : ℕ) → Reaches (judged m w arguments) fuel (framesIn workspace) v → ⊥
 
 pub record AllPublished (w arguments : List ℕ) (fuel N τ workspace : ℕ) : Type 0 where

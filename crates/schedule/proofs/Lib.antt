@@ -13,4 +13,5 @@ pub mod Heartbeat
 pub mod WorkCount
 pub mod Demand
 pub mod Bounds
+pub mod Stopping
 mod Example
