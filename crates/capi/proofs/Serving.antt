@@ -8,7 +8,7 @@ use lib.ListN.{length}
 use borrow.Author.Tests.{le-leb, lt-leb}
 use Rattle.language.specs.declared.Answer.{Answer}
 use Rattle.machine.specs.Workspace.{leftBy}
-use Rattle.capi.specs.Words.{wordsOf, written}
+use Rattle.capi.specs.Words.{answerWords, written}
 use Rattle.capi.specs.Calls.{answerBy, served, Called}
 
 pub unknown : (machine room : ℕ) → 2 < machine → served machine room ≡ false
@@ -28,7 +28,7 @@ module _ (machine : ℕ) (w arguments : List ℕ) (fuel N τ : ℕ) (ws out : Li
   turned-away h = record { returned = rw h; workspace = rw h; answer = rw h }
 
   pub told : (r : Answer) (ws′ out′ : List ℕ) → served machine (length out) ≡ true → r ≡ answerBy machine w arguments fuel N τ (length ws)
-      → ws′ ≡ leftBy r ws → out′ ≡ written out (wordsOf r) → Called machine w arguments fuel N τ ws out ws′ out′ 0
+      → ws′ ≡ leftBy r ws → out′ ≡ written out (answerWords r) → Called machine w arguments fuel N τ ws out ws′ out′ 0
   told r ws′ out′ h a left wrote = record {
     returned = rw h;
     workspace = rw (h, ← a) left;

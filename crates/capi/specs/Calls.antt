@@ -8,7 +8,7 @@ use lib.Dec.{eqb, leb}
 use Rattle.language.specs.declared.Answer.{Answer}
 use Rattle.language.specs.Answers.{sequentialOf, parallelOf, heartbeatOf}
 use Rattle.machine.specs.Workspace.{leftBy}
-use Rattle.capi.specs.Words.{wordsOf, written}
+use Rattle.capi.specs.Words.{answerWords, written}
 
 -- the answer of a machine by its number: 0 sequential, 1 parallel, 2 heartbeat
 unfoldable pub answerBy : ℕ → List ℕ → List ℕ → ℕ → ℕ → ℕ → ℕ → Answer
@@ -25,4 +25,4 @@ served machine room = leb machine 2 && leb 8 room
 pub record Called (machine : ℕ) (w arguments : List ℕ) (fuel N τ : ℕ) (ws out ws′ out′ : List ℕ) (r : ℕ) : Type 0 where
   pub returned : r ≡ cond (served machine (length out)) 0 1
   pub workspace : ws′ ≡ cond (served machine (length out)) (leftBy (answerBy machine w arguments fuel N τ (length ws)) ws) ws
-  pub answer : out′ ≡ cond (served machine (length out)) (written out (wordsOf (answerBy machine w arguments fuel N τ (length ws)))) out
+  pub answer : out′ ≡ cond (served machine (length out)) (written out (answerWords (answerBy machine w arguments fuel N τ (length ws)))) out

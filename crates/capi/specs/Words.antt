@@ -7,8 +7,8 @@ use Rattle.language.specs.declared.Answer.{Answer}
 use Rattle.language.specs.declared.Answer.the-variants.{Value, Stopped, Refused}
 use Rattle.capi.specs.declared.Words.{Words}
 
-unfoldable pub wordsOf : Answer → Words
-wordsOf (Value v counts) = record {
+unfoldable pub answerWords : Answer → Words
+answerWords (Value v counts) = record {
   kind = 0;
   told = v;
   function = 0;
@@ -18,7 +18,7 @@ wordsOf (Value v counts) = record {
   work = counts .work .0;
   span = counts .span .0;
 }
-wordsOf (Stopped s) = record {
+answerWords (Stopped s) = record {
   kind = 1;
   told = s .number;
   function = s .function;
@@ -28,7 +28,7 @@ wordsOf (Stopped s) = record {
   work = 0;
   span = 0;
 }
-wordsOf (Refused r) = record {
+answerWords (Refused r) = record {
   kind = 2;
   told = r .number;
   function = r .function;

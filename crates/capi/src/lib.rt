@@ -9,7 +9,7 @@ ghost use mathlib.Core.Path.{_≡_};
 ghost use Prim.Native.Nat.{_≤_};
 ghost use lib.ListN.{length};
 ghost use Rattle.machine.specs.Workspace.{leftBy};
-ghost use Rattle.capi.specs.Words.{wordsOf, written};
+ghost use Rattle.capi.specs.Words.{answerWords, written};
 ghost use Rattle.capi.specs.Calls.{answerBy, Called};
 
 // The words that tell an answer, in their order.
@@ -25,7 +25,7 @@ struct Words {
 }
 
 fn words_of(answer: Answer) -> Words
-    ensures { λ r. ⌜ r ≡ wordsOf answer ⌝ }
+    ensures { λ r. ⌜ r ≡ answerWords answer ⌝ }
 {
     match answer {
         Answer::Value(v, counts) => Words {

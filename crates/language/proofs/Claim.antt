@@ -17,7 +17,7 @@ use Rattle.language.specs.declared.Answer.{Answer}
 use Rattle.language.specs.declared.Answer.the-variants.{Value, Stopped, Refused}
 use Rattle.language.specs.Language.{language}
 use Rattle.language.specs.Checks.{framesIn, checkedOf}
-use Rattle.language.specs.Answers.{entry, countsOf, toldBy, afterCheck, runOf, answerOf, sequentialOf, parallelOf, heartbeatOf}
+use Rattle.language.specs.Answers.{entryCode, countsOf, toldBy, afterCheck, runOf, answerOf, sequentialOf, parallelOf, heartbeatOf}
 use Rattle.language.specs.Claim.{FourStatements, DemandThree, ForEveryInput}
 use Rattle.language.proofs.Admission.{checked-iff}
 
@@ -29,9 +29,9 @@ counts-of other (Refused r) = other
 
 module _ (w arguments : List ℕ) (fuel N τ workspace : ℕ) (N-positive : 1 ≤ N) (τ-positive : 1 ≤ τ) where
   abbrev ran : Schedule → Result graphs (language w)
-  ran m = outcome graphs (language w) fuel (framesIn workspace) m (entry arguments)
+  ran m = outcome graphs (language w) fuel (framesIn workspace) m (entryCode arguments)
 
-  abbrev told : Graph → machine.Counts → Counts
+  abbrev told : Graph → machine.RunCounts → Counts
   told g t = countsOf (t .transitions) (t .forks) (work τ g) (span τ g)
 
   -- of the runs, by what the sequential one comes to
@@ -39,7 +39,7 @@ module _ (w arguments : List ℕ) (fuel N τ workspace : ℕ) (N-positive : 1 �
       → FourStatements N τ v a (runOf parallel w arguments fuel τ workspace) (runOf (heartbeat N) w arguments fuel τ workspace)
   unfolding toldBy runOf counts-of
   of-run v a (ended (value u) g t) e q =
-      let d = demand-3 (language w) fuel (framesIn workspace) N τ (entry arguments) u g t N-positive τ-positive e in
+      let d = demand-3 (language w) fuel (framesIn workspace) N τ (entryCode arguments) u g t N-positive τ-positive e in
       let same : u ≡ v = cc in
       let counted : told g t ≡ a = ap (counts-of a) q in
       let paid : work τ g ≡ a .work .0 = ap (λ (x : Counts). x .work .0) counted in

@@ -37,7 +37,7 @@ use Rattle.language.specs.declared.Answer.the-variants.{Value, Stopped, 
 use Rattle.language.specs.Language as language
 use Rattle.language.specs.Language.{Code, Frame, left-operand, right-operand, condition, binding, argument, place, frame-place, result, operated, next, gathered, arrive}
 use Rattle.language.specs.Checks.{framesIn, checkedOf}
-use Rattle.language.specs.Answers.{entry, toldBy, afterCheck, runOf, answerOf}
+use Rattle.language.specs.Answers.{entryCode, toldBy, afterCheck, runOf, answerOf}
 use Rattle.language.specs.Stops.{Listed, StopsListed}
 use Rattle.language.proofs.Admission.{checked-iff}
 
@@ -250,13 +250,13 @@ stop-of other (Refused r) = other
 
 module _ (m : Schedule) (w arguments : List ℕ) (fuel N τ workspace : ℕ) (s : Stop) where
   abbrev ran : Result graphs (language.language w)
-  ran = outcome graphs (language.language w) fuel (framesIn workspace) m (entry arguments)
+  ran = outcome graphs (language.language w) fuel (framesIn workspace) m (entryCode arguments)
 
-  ended-so : (table : WellFormed w) (i : ℕ) (p : Place) (g : Graph) (t : machine.Counts) → ran ≡ ended (stop i p) g t
+  ended-so : (table : WellFormed w) (i : ℕ) (p : Place) (g : Graph) (t : machine.RunCounts) → ran ≡ ended (stop i p) g t
       → _≡_ {A = Stop} (record { number = i; function = p .function; node = p .node; transitions = t .transitions }) s → Listed w fuel s
   ended-so table i p g t e q =
       let a = stopping.told (language.language w) (CodeOk w) (FrameOk w) (ForkOk w) (Tells w) graphs fuel (framesIn workspace) (known w table) m
-      (entry arguments) (enter w table 0 (omega (arith, table .contents .header .some))) i p g t e in
+      (entryCode arguments) (enter w table 0 (omega (arith, table .contents .header .some))) i p g t e in
       let z : Listed w fuel (record { number = i; function = p .function; node = p .node; transitions = t .transitions }) = record {
         least = a .tells .least;
         most = a .tells .most;
@@ -272,7 +272,7 @@ module _ (m : Schedule) (w arguments : List ℕ) (fuel N τ workspace : ℕ) (s 
   ran-so table (ended (value v) g t) e q = let no : _≡_ {A = ℕ} 0 1 = cc in absurd (omega arith)
   ran-so table (ended (stop i p) g t) e q = ended-so table i p g t e (ap (stop-of s) q)
   ran-so table (ongoing u) e q =
-      let z = finishes graphs (language.language w) fuel (framesIn workspace) m (entry arguments) in
+      let z = finishes graphs (language.language w) fuel (framesIn workspace) m (entryCode arguments) in
       let k = z .1 .is in
       let no : _≡_ {A = ℕ} 0 1 = cc in
       absurd (omega arith)

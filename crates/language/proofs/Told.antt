@@ -20,14 +20,14 @@ use Rattle.language.specs.declared.Answer.{Answer}
 use Rattle.language.specs.declared.Answer.the-variants.{Value, Refused}
 use Rattle.language.specs.Language.{Code, language}
 use Rattle.language.specs.Checks.{framesIn, checkedOf}
-use Rattle.language.specs.Answers.{entry, countsOf, toldBy, toldBySpans, afterCheck, runOf, answerOf, RefusedAlike}
+use Rattle.language.specs.Answers.{entryCode, countsOf, toldBy, toldBySpans, afterCheck, runOf, answerOf, RefusedAlike}
 
 module _ (w : List ℕ) (fuel frames τ : ℕ) (m : Schedule) (c : Code) where
   abbrev ran : Result graphs (language w)
   ran = outcome graphs (language w) fuel frames m c
 
   -- where a run over graphs has a value, its work is transitions + τ · forks
-  pub counts-work : (v : ℕ) (g : Graph) (t : machine.Counts) → ran ≡ ended (value v) g t
+  pub counts-work : (v : ℕ) (g : Graph) (t : machine.RunCounts) → ran ≡ ended (value v) g t
       → work τ g ≡ t .transitions + τ * t .forks
   counts-work v g t e = work-counted (language w) fuel frames τ m c v g t e
 
@@ -52,17 +52,17 @@ module _ (m : Schedule) (w arguments : List ℕ) (fuel N τ workspace : ℕ) whe
   answer-refused r e = rw e
 
   pub answer-run : checkedOf w (length arguments) fuel N τ workspace ≡ reading.Accepted
-      → toldBySpans τ (outcome (spans τ) (language w) fuel (framesIn workspace) m (entry arguments))
+      → toldBySpans τ (outcome (spans τ) (language w) fuel (framesIn workspace) m (entryCode arguments))
       ≡ answerOf m w arguments fuel N τ workspace
   unfolding answerOf afterCheck runOf
-  answer-run e = rw e (told-by-spans w fuel (framesIn workspace) τ m (entry arguments))
+  answer-run e = rw e (told-by-spans w fuel (framesIn workspace) τ m (entryCode arguments))
 
   -- a run's answer is that of an end: `unfinished` is never told
-  pub run-ends : (z : Ending) × (g : Graph) × (t : machine.Counts)
+  pub run-ends : (z : Ending) × (g : Graph) × (t : machine.RunCounts)
       × (runOf m w arguments fuel τ workspace ≡ toldBy {X = machine.State graphs (language w)} τ (ended z g t))
   unfolding runOf
   run-ends =
-      let e = finishes graphs (language w) fuel (framesIn workspace) m (entry arguments) in
+      let e = finishes graphs (language w) fuel (framesIn workspace) m (entryCode arguments) in
       (e .0, e .1 .cost, e .1 .counts, ap (toldBy τ) (e .1 .is))
 
 -- a run answers no refusal
@@ -81,4 +81,4 @@ pub refused-alike : RefusedAlike
 unfolding answerOf runOf
 refused-alike m n w arguments fuel N τ workspace r =
     after-alike (checkedOf w (length arguments) fuel N τ workspace) (runOf m w arguments fuel τ workspace) (runOf n w arguments fuel τ workspace) r
-    (ran-unrefused τ (outcome graphs (language w) fuel (framesIn workspace) m (entry arguments)) r)
+    (ran-unrefused τ (outcome graphs (language w) fuel (framesIn workspace) m (entryCode arguments)) r)

@@ -20,8 +20,8 @@ use Rattle.language.specs.Language.{Code, entered, language}
 use Rattle.language.specs.Checks.{framesIn, checkedOf}
 
 -- "Function 0 is the entry": its body, from its root, with the arguments as locals, "arguments first"
-abbrev pub entry : List ℕ → Code
-entry arguments = entered 0 arguments
+abbrev pub entryCode : List ℕ → Code
+entryCode arguments = entered 0 arguments
 
 -- "The counts are transitions, forks, work and span."
 abbrev pub countsOf : ℕ → ℕ → ℕ → ℕ → Counts
@@ -58,7 +58,7 @@ afterCheck (reading.Refused r) answer = Refused r
 -- What a machine tells of an input that is accepted.
 unfoldable pub runOf : Schedule → List ℕ → List ℕ → ℕ → ℕ → ℕ → Answer
 runOf machine w arguments fuel τ workspace =
-    toldBy τ (outcome graphs (language w) fuel (framesIn workspace) machine (entry arguments))
+    toldBy τ (outcome graphs (language w) fuel (framesIn workspace) machine (entryCode arguments))
 
 -- THE ANSWER of a machine, for any table, arguments, fuel, N, τ and length of the workspace.
 unfoldable pub answerOf : Schedule → List ℕ → List ℕ → ℕ → ℕ → ℕ → ℕ → Answer

@@ -21,7 +21,7 @@ use Rattle.table.specs.Words.{arityAt, nodesAt}
 use Rattle.table.specs.WellFormed.{WellFormed}
 use Rattle.language.specs.declared.Answer.{Answer}
 use Rattle.language.specs.Language.{language}
-use Rattle.language.specs.Answers.{entry, toldBySpans}
+use Rattle.language.specs.Answers.{entryCode, toldBySpans}
 use Rattle.moves.specs.declared.Registers.{Registers}
 use Rattle.moves.specs.declared.Plan.{Plan}
 use Rattle.moves.specs.declared.Step.{Step}
@@ -29,7 +29,7 @@ use Rattle.moves.specs.declared.Step.the-variants.{Go, Value, Halt}
 use Rattle.moves.specs.Layout.{stackOf, controlOf, stateOf, resultOf}
 use Rattle.moves.specs.Ready.{Held, Controlled, Limits, Ready, KeptBy, Advanced}
 use Rattle.machine.specs.Workspace.{leftBy}
-use Rattle.machine.specs.Runs.{begun, toldOf, Countable, Begins, Ran}
+use Rattle.machine.specs.Runs.{begun, toldAt, Countable, Begins, Ran}
 
 -- of an enum's tag, as the code's tests tell it
 pub neither : (_≡_ {A = ℕ} 0 1) ⊎ (_≡_ {A = ℕ} 0 2) → ⊥
@@ -48,7 +48,7 @@ pub record Running (w arguments : List ℕ) (size : ℕ) (plan : Plan) (ws ls : 
   pub enough : to-go w size plan ws ls s ≤ left
   pub course : (m : Schedule) → Flags (plan .fuel .0) m (plan .birth) (plan .period)
       → schedule.run (step (spans (plan .tau)) (language w) (plan .fuel .0) (size / 32) m) (left + 1) (stateOf w (plan .tau) ws ls s)
-      ≡ outcome (spans (plan .tau)) (language w) (plan .fuel .0) (size / 32) m (entry arguments)
+      ≡ outcome (spans (plan .tau)) (language w) (plan .fuel .0) (size / 32) m (entryCode arguments)
 
 pub running-first : (w ws ls : List ℕ) (plan : Plan) (count : ℕ) → Begins w ws ls plan count → (s : Registers) → s ≡ begun count
     → Running w (take count ls) (length ws) plan ws ls s
@@ -79,10 +79,10 @@ running-first w ws ls plan count b s u =
           born = λ h. refl;
         };
         limits = b .limits;
-        bounded = start-bounded (plan .tau) (language w) (plan .fuel .0) (length ws / 32) (entry (take count ls));
+        bounded = start-bounded (plan .tau) (language w) (plan .fuel .0) (length ws / 32) (entryCode (take count ls));
       };
       left = 5 * plan .fuel .0 + length ws / 32;
-      enough = omega (arith, start-measure (plan .tau) (language w) (plan .fuel .0) (length ws / 32) (entry (take count ls)));
+      enough = omega (arith, start-measure (plan .tau) (language w) (plan .fuel .0) (length ws / 32) (entryCode (take count ls)));
       course = λ m h. refl;
     })
 
@@ -108,7 +108,7 @@ module _ (w arguments : List ℕ) (size : ℕ) (plan : Plan) (ws ls : List ℕ) 
 
     turned : (m : Schedule) → Flags (plan .fuel .0) m (plan .birth) (plan .period)
         → and-then (resultOf w (plan .tau) ws′ ls′ s o) (schedule.run (step (spans (plan .tau)) (language w) (plan .fuel .0) (size / 32) m) (r .left))
-        ≡ outcome (spans (plan .tau)) (language w) (plan .fuel .0) (size / 32) m (entry arguments)
+        ≡ outcome (spans (plan .tau)) (language w) (plan .fuel .0) (size / 32) m (entryCode arguments)
     turned m h =
         let f = flags-are (plan .tau) (language w) (plan .fuel .0) (size / 32) m (plan .birth) (plan .period) h (stateOf w (plan .tau) ws ls s) bounded in
         rw (← moved, ← f) (sym (run-next (step (spans (plan .tau)) (language w) (plan .fuel .0) (size / 32) m) (r .left) (stateOf w (plan .tau) ws ls s)) ∙ r .course m h)
@@ -138,23 +138,23 @@ module _ (w arguments : List ℕ) (size : ℕ) (plan : Plan) (ws ls : List ℕ) 
 
     -- what the code tells of an end is what the definition tells
     told-so : ((next : Registers) → o ≡ Go next → ⊥) → (m : Schedule) → Flags (plan .fuel .0) m (plan .birth) (plan .period)
-        → toldOf (plan .tau) s o ≡ toldBySpans (plan .tau) (outcome (spans (plan .tau)) (language w) (plan .fuel .0) (size / 32) m (entry arguments))
-    unfolding toldOf toldBySpans resultOf and-then
+        → toldAt (plan .tau) s o ≡ toldBySpans (plan .tau) (outcome (spans (plan .tau)) (language w) (plan .fuel .0) (size / 32) m (entryCode arguments))
+    unfolding toldAt toldBySpans resultOf and-then
     told-so stays m h = at-end o refl
       where
-        at-end : (p : Step) → o ≡ p → toldOf (plan .tau) s o ≡ toldBySpans (plan .tau) (outcome (spans (plan .tau)) (language w) (plan .fuel .0) (size / 32) m (entry arguments))
+        at-end : (p : Step) → o ≡ p → toldAt (plan .tau) s o ≡ toldBySpans (plan .tau) (outcome (spans (plan .tau)) (language w) (plan .fuel .0) (size / 32) m (entryCode arguments))
         at-end (Go next) e = absurd (stays next e)
         at-end (Value v) e = rw e (ap (toldBySpans (plan .tau)) (rw e at (turned m h)))
         at-end (Halt p) e = rw e (ap (toldBySpans (plan .tau)) (rw e at (turned m h)))
 
-    pub running-ends : ((next : Registers) → o ≡ Go next → ⊥) → (a : Answer) → a ≡ toldOf (plan .tau) s o → Ran w arguments size plan a
-    unfolding toldOf leftBy
+    pub running-ends : ((next : Registers) → o ≡ Go next → ⊥) → (a : Answer) → a ≡ toldAt (plan .tau) s o → Ran w arguments size plan a
+    unfolding toldAt leftBy
     running-ends stays a e = record {
       answers = λ m h. e ∙ told-so stays m h;
       began = λ words. rw e (begins o words);
     }
       where
-        begins : (p : Step) (words : List ℕ) → leftBy (toldOf (plan .tau) s p) words ≡ replicate (length words) 0
+        begins : (p : Step) (words : List ℕ) → leftBy (toldAt (plan .tau) s p) words ≡ replicate (length words) 0
         begins (Go next) words = refl
         begins (Value v) words = refl
         begins (Halt p) words = refl

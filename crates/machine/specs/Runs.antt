@@ -15,7 +15,7 @@ use Rattle.language.specs.declared.Answer.{Answer}
 use Rattle.language.specs.declared.Answer.the-variants as answer
 use Rattle.language.specs.Language.{language}
 use Rattle.language.specs.Checks.{framesIn}
-use Rattle.language.specs.Answers.{entry, countsOf, stopped, unfinished, toldBySpans, answerOf}
+use Rattle.language.specs.Answers.{entryCode, countsOf, stopped, unfinished, toldBySpans, answerOf}
 use Rattle.moves.specs.declared.Control.the-variants.{Eval}
 use Rattle.moves.specs.declared.Registers.{Registers}
 use Rattle.moves.specs.declared.Plan.{Plan}
@@ -38,10 +38,10 @@ begun count = record {
 }
 
 -- what is answered where a run ends at these registers; a run that goes on is at no end, so that the first line is never told
-unfoldable pub toldOf : ℕ → Registers → Step → Answer
-toldOf τ s (Go next) = unfinished
-toldOf τ s (Value v) = answer.Value v (countsOf (s .transitions) (s .forks) (s .transitions + τ * s .forks) (s .span .0))
-toldOf τ s (Halt h) = stopped (h .number) (record { function = h .function; node = h .node }) (s .transitions)
+unfoldable pub toldAt : ℕ → Registers → Step → Answer
+toldAt τ s (Go next) = unfinished
+toldAt τ s (Value v) = answer.Value v (countsOf (s .transitions) (s .forks) (s .transitions + τ * s .forks) (s .span .0))
+toldAt τ s (Halt h) = stopped (h .number) (record { function = h .function; node = h .node }) (s .transitions)
 
 -- the counts are small enough for the sum of the work
 pub record Countable (plan : Plan) (s : Registers) : Type 0 where
@@ -66,7 +66,7 @@ pub record Begins (w ws ls : List ℕ) (plan : Plan) (count : ℕ) : Type 0 wher
 -- refusal
 pub record Ran (w arguments : List ℕ) (workspace : ℕ) (plan : Plan) (r : Answer) : Type 0 where
   pub answers : (m : Schedule) → Flags (plan .fuel .0) m (plan .birth) (plan .period)
-      → r ≡ toldBySpans (plan .tau) (outcome (spans (plan .tau)) (language w) (plan .fuel .0) (framesIn workspace) m (entry arguments))
+      → r ≡ toldBySpans (plan .tau) (outcome (spans (plan .tau)) (language w) (plan .fuel .0) (framesIn workspace) m (entryCode arguments))
   pub began : (ws : List ℕ) → leftBy r ws ≡ replicate (length ws) 0
 
 -- the flags are a schedule's, where the fuel is in its range; the check refuses any other

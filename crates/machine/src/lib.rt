@@ -23,7 +23,7 @@ ghost use lib.ListN.{length, take};
 ghost use Rattle.table.specs.Read.{startsOf};
 ghost use Rattle.language.specs.Answers.{countsOf, stopped, sequentialOf, parallelOf, heartbeatOf};
 ghost use Rattle.machine.specs.Workspace.{leftBy};
-ghost use Rattle.machine.specs.Runs.{begun, toldOf, Countable, Accepted, Begins, Ran, Tells};
+ghost use Rattle.machine.specs.Runs.{begun, toldAt, Countable, Accepted, Begins, Ran, Tells};
 ghost use Rattle.machine.specs.AllThree.{AllThree};
 
 // The period of a machine that never promotes: above any fuel.
@@ -83,7 +83,7 @@ fn stop(number: u32, function: usize, node: usize, transitions: u64) -> Answer
 // The answer where a run ends: its value with the counts, or its stop with the transitions made.
 fn tell(plan: Plan, s: Registers, step: Step) -> Answer
     requires { ⌜ Countable plan s ⌝ }
-    ensures { λ r. ⌜ r ≡ toldOf (plan .tau) s step ⌝ }
+    ensures { λ r. ⌜ r ≡ toldAt (plan .tau) s step ⌝ }
 {
     match step {
         Step::Value(v) => Answer::Value(v, count(plan.tau, s)),

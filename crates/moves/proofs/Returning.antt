@@ -30,7 +30,7 @@ use Rattle.moves.specs.declared.Plan.{Plan}
 use Rattle.moves.specs.declared.Seat.{Seat}
 use Rattle.moves.specs.declared.Step.{Step}
 use Rattle.moves.specs.declared.Step.the-variants.{Go, Value}
-use Rattle.moves.specs.Layout.{codeAt, argumentsAt, slots, slotOf, slotAt, stackOf, controlOf, countsOf, stateOf, resultOf, ticked, restarted, oldestWithout, halted}
+use Rattle.moves.specs.Layout.{codeAt, argumentsAt, slots, slotOf, slotAt, stackOf, controlOf, runCountsOf, stateOf, resultOf, ticked, restarted, oldestWithout, halted}
 use Rattle.moves.specs.Ready.{Stands, tagOf, Fitting, FittingAt, Held, Controlled, Oldest, Kept, Ready, Paid, KeptBy, Stepped, Returns, Sitting, Child, Concluded, Operand, calledAt, stepOf, operationOf, operation, Resumed, resumes, stays}
 use Rattle.moves.proofs.Nodes.{start-is, arithmetic-in, operation-in, choose-in, let-in, both-in, called-in, argument-later, enter}
 use Rattle.moves.proofs.Stacks.{stack-more, held-more, held-top, same-slots, few-arguments}
@@ -82,7 +82,7 @@ module _ (w ws ls : List ℕ) (plan : Plan) (s : Registers) (v t kind : ℕ) (q 
 
   -- the move, by the slot that the words hold
   abbrev from : Slot ℕ Frame Code → Result K (language w)
-  from x = move K (language w) (plan .fuel .0) cap (plan .birth) (state (return v) (x ∷ stackOf ws t) (s .credits .0) (s .span .0) (countsOf s))
+  from x = move K (language w) (plan .fuel .0) cap (plan .birth) (state (return v) (x ∷ stackOf ws t) (s .credits .0) (s .span .0) (runCountsOf s))
 
   slot-is : slotAt ws (32 * t) ≡ slotOf kind code (getD ws (32 * t + 4) 0) (argumentsAt ws (32 * t)) (getD ws (32 * t + 5) 0) (getD ws (32 * t + 6) 0)
   slot-is = rw (q .of-kind)
@@ -93,7 +93,7 @@ module _ (w ws ls : List ℕ) (plan : Plan) (s : Registers) (v t kind : ℕ) (q 
   returned = rw (q .is, q .depth, ← stack-more ws t, slot-is)
 
   abbrev to : FlatControl Code → List (Slot ℕ Frame Code) → Result K (language w)
-  to c S = ongoing (after-transition K (language w) c S (s .credits .0) (s .span .0) (countsOf s))
+  to c S = ongoing (after-transition K (language w) c S (s .credits .0) (s .span .0) (runCountsOf s))
 
   -- an ordinary frame, by what arrives there
   module _ (paid : Paid plan s) (fr : Frame) where
@@ -105,7 +105,7 @@ module _ (w ws ls : List ℕ) (plan : Plan) (s : Registers) (v t kind : ℕ) (q 
     unfolding move arrived with-fuel
     keeps fr′ c e = rw (e, lt-ltb _ _ paid)
 
-    fails : (i : ℕ) → arrive w fr v ≡ fail i → from (ordinary fr) ≡ ended (stop i (frame-place fr)) (s .span .0) (countsOf s)
+    fails : (i : ℕ) → arrive w fr v ≡ fail i → from (ordinary fr) ≡ ended (stop i (frame-place fr)) (s .span .0) (runCountsOf s)
     unfolding move arrived with-fuel
     fails i e = rw (e, lt-ltb _ _ paid)
 
@@ -414,7 +414,7 @@ module _ (w ws ls : List ℕ) (plan : Plan) (s : Registers) (v t : ℕ) (q : Ret
 -- NO FUEL: a frame that is not promoted is not reached
 module _ (w ws ls : List ℕ) (plan : Plan) (s : Registers) (v t kind : ℕ) (q : Returns w ws ls plan s v t kind) (dry : plan .fuel .0 ≤ s .transitions) where
   abbrev spent : Result (spans (plan .tau)) (language w)
-  spent = ended (stop 20 (place (codeAt ws (32 * t)))) (s .span .0) (countsOf s)
+  spent = ended (stop 20 (place (codeAt ws (32 * t)))) (s .span .0) (runCountsOf s)
 
   ordinary-dry : (fr : Frame) (a : Arrival Code Frame) → arrive w fr v ≡ a → frame-place fr ≡ place (codeAt ws (32 * t)) → from w ws ls plan s v t kind q (ordinary fr) ≡ spent
   unfolding move arrived with-fuel

@@ -12,7 +12,7 @@ use Rattle.schedule.specs.FrameMachine.{go-on, open-frame}
 use Rattle.schedule.specs.FrameMachine.{Control as FlatControl}
 use Rattle.schedule.specs.Algebra.{CostAlgebra, spans}
 use Rattle.schedule.specs.Machine.{Slot, ordinary, plain-left, promoted-left, stop, state, ended, ongoing, tick, after-transition, with-fuel, with-frame, evaluated, move}
-use Rattle.schedule.specs.Machine.{Counts as FlatCounts}
+use Rattle.schedule.specs.Machine.{RunCounts}
 use Rattle.table.specs.declared.Operation.{Operation}
 use Rattle.table.specs.declared.Node.{Node}
 use Rattle.table.specs.declared.Node.the-variants.{Constant, Local, Arithmetic, Choose, Let, Call, Both, Unknown}
@@ -28,7 +28,7 @@ use Rattle.moves.specs.declared.Registers.{Registers}
 use Rattle.moves.specs.declared.Plan.{Plan}
 use Rattle.moves.specs.declared.Step.{Step}
 use Rattle.moves.specs.declared.Step.the-variants.{Go}
-use Rattle.moves.specs.Layout.{slotOf, slotAt, stackOf, controlOf, countsOf, stateOf, resultOf, ticked, oldestWith, halted}
+use Rattle.moves.specs.Layout.{slotOf, slotAt, stackOf, controlOf, runCountsOf, stateOf, resultOf, ticked, oldestWith, halted}
 use Rattle.moves.specs.Ready.{Stands, Fitting, Held, Controlled, Oldest, Kept, Ready, KeptBy, Stepped, Framed, transited, Opened, dry, opens, Forked, forks, OpenedBoth, born, plain}
 use Rattle.moves.proofs.Nodes.{start-inside, start-is, inside, local-in, known, tag-is, arithmetic-in, choose-in, let-in, both-in, argument-first, enter, called-is, callee}
 use Rattle.moves.proofs.Stacks.{length-stack, stack-more, held-more, same-slots}
@@ -54,8 +54,8 @@ module _ (w ws ls : List ℕ) (plan : Plan) (s : Registers) (r : Ready w ws ls p
   bounds = omega (arith, r .bounded .within-fuel, r .bounded .credits, r .bounded .costs, r .bounded .forks, r .limits .fuel, r .limits .frames)
 
   -- a transition leads to this state
-  gone : (c : FlatControl Code) (S : List (Slot ℕ Frame Code)) (t : FlatCounts) (ws′ ls′ : List ℕ) (next : Registers)
-      → controlOf (next .control) ls′ ≡ c → stackOf ws′ (next .depth) ≡ S → next .credits .0 ≡ s .credits .0 + 1 → next .span .0 ≡ s .span .0 + 1 → countsOf next ≡ tick t
+  gone : (c : FlatControl Code) (S : List (Slot ℕ Frame Code)) (t : RunCounts) (ws′ ls′ : List ℕ) (next : Registers)
+      → controlOf (next .control) ls′ ≡ c → stackOf ws′ (next .depth) ≡ S → next .credits .0 ≡ s .credits .0 + 1 → next .span .0 ≡ s .span .0 + 1 → runCountsOf next ≡ tick t
       → ongoing (after-transition K (language w) c S (s .credits .0) (s .span .0) t) ≡ resultOf w (plan .tau) ws′ ls′ s (Go next)
   unfolding resultOf
   gone c S t ws′ ls′ next a b d e f = rw (a, b, d, e, f)
@@ -87,7 +87,7 @@ module _ (w ws ls : List ℕ) (plan : Plan) (s : Registers) (r : Ready w ws ls p
     code = record { function = f; node = p; locals = take k ls }
 
     evaluates : move K (language w) (plan .fuel .0) cap (plan .birth) (stateOf w (plan .tau) ws ls s)
-        ≡ evaluated K (language w) (plan .fuel .0) cap (plan .birth) (place code) (next w code (nodeAt w (startOf w f) p)) (stackOf ws (s .depth)) (s .credits .0) (s .span .0) (countsOf s)
+        ≡ evaluated K (language w) (plan .fuel .0) cap (plan .birth) (place code) (next w code (nodeAt w (startOf w f) p)) (stackOf ws (s .depth)) (s .credits .0) (s .span .0) (runCountsOf s)
     unfolding move controlOf
     evaluates = rw e
 
@@ -107,7 +107,7 @@ module _ (w ws ls : List ℕ) (plan : Plan) (s : Registers) (r : Ready w ws ls p
 
     -- a stop leaves all as it was
     stopped : (i : ℕ) (o : Step) → o ≡ halted i f p
-        → move K (language w) (plan .fuel .0) cap (plan .birth) (stateOf w (plan .tau) ws ls s) ≡ ended (stop i (place code)) (s .span .0) (countsOf s)
+        → move K (language w) (plan .fuel .0) cap (plan .birth) (stateOf w (plan .tau) ws ls s) ≡ ended (stop i (place code)) (s .span .0) (runCountsOf s)
         → Stepped w ws ls plan s ws ls o
     unfolding resultOf KeptBy
     stopped i o u x = rw u (record { same = x; kept = tt })
@@ -118,7 +118,7 @@ module _ (w ws ls : List ℕ) (plan : Plan) (s : Registers) (r : Ready w ws ls p
     unfolding evaluated with-fuel resultOf KeptBy
     stepped-transit c o n h u = rw u (record { same = evaluates ∙ rw n (same (ltb (s .transitions) (plan .fuel .0))); kept = keeps (ltb (s .transitions) (plan .fuel .0)) })
       where
-        same : (b : Bool) → cond b (ongoing (after-transition K (language w) (controlOf c ls) (stackOf ws (s .depth)) (s .credits .0) (s .span .0) (countsOf s))) (ended (stop 20 (place code)) (s .span .0) (countsOf s))
+        same : (b : Bool) → cond b (ongoing (after-transition K (language w) (controlOf c ls) (stackOf ws (s .depth)) (s .credits .0) (s .span .0) (runCountsOf s))) (ended (stop 20 (place code)) (s .span .0) (runCountsOf s))
             ≡ resultOf w (plan .tau) ws ls s (cond b (Go (ticked s c (s .depth) (s .oldest))) (halted 20 f p))
         same true = refl
         same false = refl

@@ -10,7 +10,7 @@ use Rattle.schedule.specs.FrameMachine.{evaluate, return}
 use Rattle.schedule.specs.FrameMachine.{Control as FlatControl}
 use Rattle.schedule.specs.Algebra.{spans}
 use Rattle.schedule.specs.Machine.{Slot, ordinary, plain-left, plain-right, promoted-left, promoted-right, value, stop, State, state, Result, ended, ongoing}
-use Rattle.schedule.specs.Machine.{Counts as FlatCounts}
+use Rattle.schedule.specs.Machine.{RunCounts}
 use Rattle.moves.specs.declared.Control.{Control}
 use Rattle.moves.specs.declared.Control.the-variants.{Eval, Ret}
 use Rattle.moves.specs.declared.Registers.{Registers}
@@ -52,17 +52,17 @@ unfoldable pub controlOf : Control → List ℕ → FlatControl Code
 controlOf (Eval f p k) ls = evaluate (record { function = f; node = p; locals = take k ls })
 controlOf (Ret v) ls = return v
 
-abbrev pub countsOf : Registers → FlatCounts
-countsOf s = record { transitions = s .transitions; forks = s .forks; deepest = s .deepest }
+abbrev pub runCountsOf : Registers → RunCounts
+runCountsOf s = record { transitions = s .transitions; forks = s .forks; deepest = s .deepest }
 
 abbrev pub stateOf : (w : List ℕ) (τ : ℕ) → List ℕ → List ℕ → Registers → State (spans τ) (language w)
-stateOf w τ ws ls s = state (controlOf (s .control) ls) (stackOf ws (s .depth)) (s .credits .0) (s .span .0) (countsOf s)
+stateOf w τ ws ls s = state (controlOf (s .control) ls) (stackOf ws (s .depth)) (s .credits .0) (s .span .0) (runCountsOf s)
 
 -- what a move answers
 unfoldable pub resultOf : (w : List ℕ) (τ : ℕ) → List ℕ → List ℕ → Registers → Step → Result (spans τ) (language w)
 resultOf w τ ws ls s (Go next) = ongoing (stateOf w τ ws ls next)
-resultOf w τ ws ls s (Value v) = ended (value v) (s .span .0) (countsOf s)
-resultOf w τ ws ls s (Halt h) = ended (stop (h .number) (record { function = h .function; node = h .node })) (s .span .0) (countsOf s)
+resultOf w τ ws ls s (Value v) = ended (value v) (s .span .0) (runCountsOf s)
+resultOf w τ ws ls s (Halt h) = ended (stop (h .number) (record { function = h .function; node = h .node })) (s .span .0) (runCountsOf s)
 
 -- THE REGISTERS: after a transition; where a machine starts afresh, after a fork, an arrival or a join; at one frame more
 abbrev pub ticked : Registers → Control → ℕ → ℕ → Registers

@@ -25,7 +25,7 @@ use Rattle.moves.specs.declared.Seat.{Seat}
 use Rattle.moves.specs.declared.Step.{Step}
 use Rattle.moves.specs.declared.Step.the-variants.{Go, Value, Halt}
 use Rattle.language.specs.Language.{language}
-use Rattle.moves.specs.Layout.{stackOf, controlOf, countsOf, stateOf, resultOf, ticked, restarted, risen, oldestWith, halted}
+use Rattle.moves.specs.Layout.{stackOf, controlOf, runCountsOf, stateOf, resultOf, ticked, restarted, risen, oldestWith, halted}
 
 -- a subtree of function f's body stands at p, with k locals bound: what the machine knows of a node
 pub record Stands (w : List ℕ) (f p k : ℕ) : Type 0 where
@@ -84,7 +84,7 @@ pub record Limits (ws : List ℕ) (plan : Plan) : Type 0 where
 pub record Ready (w ws ls : List ℕ) (plan : Plan) (s : Registers) : Type 0 where
   pub kept : Kept w ws ls (plan .birth) (s .control) (s .depth) (s .oldest)
   pub limits : Limits ws plan
-  pub bounded : Bounded (plan .tau) (language w) (plan .fuel .0) (length ws / 32) (controlOf (s .control) ls) (stackOf ws (s .depth)) (s .credits .0) (s .span .0) (countsOf s)
+  pub bounded : Bounded (plan .tau) (language w) (plan .fuel .0) (length ws / 32) (controlOf (s .control) ls) (stackOf ws (s .depth)) (s .credits .0) (s .span .0) (runCountsOf s)
 
 abbrev pub Paid : Plan → Registers → Type 0
 Paid plan s = s .transitions < plan .fuel .0

@@ -6,7 +6,7 @@ use native.Mathlib.Omega.{arith}
 use Rattle.schedule.specs.Graph.{Graph, empty}
 use Rattle.schedule.specs.Algebra.{graphs}
 use Rattle.schedule.specs.FrameMachine.{evaluate, return, FrameMachine}
-use Rattle.schedule.specs.Machine.{promotable, value, Counts, zeros, state, Result, ended, Schedule, sequential, parallel, heartbeat, move, step, start}
+use Rattle.schedule.specs.Machine.{promotable, value, RunCounts, zeros, state, Result, ended, Schedule, sequential, parallel, heartbeat, move, step, start}
 use Rattle.schedule.specs.Runs.{and-then, run, moves, outcome}
 use Rattle.schedule.proofs.Runs.{same-end}
 use Rattle.schedule.proofs.Finish.{finishes}
@@ -19,7 +19,7 @@ use Rattle.published.proofs.FromDerivation.{Lands, ends-as, lands, step
 use Rattle.published.proofs.Deterministic.{count}
 use Rattle.published.proofs.FromRun.{Back, backs}
 
-counts-are : (t : Counts) (k f d : ℕ) → t .transitions ≡ k → t .forks ≡ f → t .deepest ≡ d
+counts-are : (t : RunCounts) (k f d : ℕ) → t .transitions ≡ k → t .forks ≡ f → t .deepest ≡ d
     → t ≡ record { transitions = k; forks = f; deepest = d }
 counts-are t k f d a b c = λ i. record { transitions = a i; forks = b i; deepest = c i }
 
@@ -27,10 +27,10 @@ module _ (M : FrameMachine) (fuel frames : ℕ) (m : Schedule) (c : M .Code) whe
   abbrev At : ℕ → CostGraph → ℕ → ℕ → Type 0
   At v g k p = Eval M m (evaluate c) [] 0 v g k p
 
-  abbrev Ends : ℕ → Graph → Counts → Type 0
+  abbrev Ends : ℕ → Graph → RunCounts → Type 0
   Ends v g t = outcome graphs M fuel frames m c ≡ ended (value v) g t
 
-  at-empty : (v n : ℕ) (g : Graph) (t : Counts) → step graphs M fuel frames m (state (return v) [] n g t) ≡ ended (value v) g t
+  at-empty : (v n : ℕ) (g : Graph) (t : RunCounts) → step graphs M fuel frames m (state (return v) [] n g t) ≡ ended (value v) g t
   unfolding move promotable
   at-empty v n g t = step-quiet M fuel frames m (return v) [] n g t _ (quiet m n) refl
 
@@ -52,7 +52,7 @@ module _ (M : FrameMachine) (fuel frames : ℕ) (m : Schedule) (c : M .Code) whe
   forth {v} {g} {k} {p} e l r = landed v g k p (lands M fuel frames m e .to [] refl empty zeros (omega arith) (omega arith) (omega arith))
 
   -- What the run's end gives.
-  record Derived (v : ℕ) (g : Graph) (t : Counts) : Type 0 where
+  record Derived (v : ℕ) (g : Graph) (t : RunCounts) : Type 0 where
     graph : CostGraph
     derivation : At v graph (t .transitions) (t .deepest)
     is : empty ▹ graph ≡ g
@@ -60,7 +60,7 @@ module _ (M : FrameMachine) (fuel frames : ℕ) (m : Schedule) (c : M .Code) whe
     fits : t .transitions ≤ fuel
     holds : t .deepest ≤ frames
 
-  ended-so : (v v' n : ℕ) (g g' : Graph) (t t' : Counts) (l : ℕ)
+  ended-so : (v v' n : ℕ) (g g' : Graph) (t t' : RunCounts) (l : ℕ)
       → run (step graphs M fuel frames m) l (state (return v) [] n g t) ≡ ended (value v') g' t' → (v ≡ v') × (g ≡ g') × (t ≡ t')
   unfolding run and-then
   ended-so v v' n g g' t t' zero e = let q : _≡_ {A = ℕ} 0 1 = cc in absurd (omega arith)
@@ -68,7 +68,7 @@ module _ (M : FrameMachine) (fuel frames : ℕ) (m : Schedule) (c : M .Code) whe
       let h : _≡_ {A = Result graphs M} (ended (value v) g t) (ended (value v') g' t') = rw (at-empty v n g t) at e in
       ((cc), (cc), (cc))
 
-  returned : {v : ℕ} {g : Graph} {t : Counts} {j : ℕ} → Back M fuel frames m v g t (evaluate c) [] [] 0 empty zeros j → Derived v g t
+  returned : {v : ℕ} {g : Graph} {t : RunCounts} {j : ℕ} → Back M fuel frames m v g t (evaluate c) [] [] 0 empty zeros j → Derived v g t
   returned {v} {g} {t} a =
       let e = ended-so (a .v) v (a .o) (empty ▹ a .g) g (a .i) t (a .l) (a .goes) in
       let ek : a .k ≡ t .transitions = sym (a .transitions ∙ omega arith) ∙ ap (λ x. x .transitions) (e .2) in
@@ -84,7 +84,7 @@ module _ (M : FrameMachine) (fuel frames : ℕ) (m : Schedule) (c : M .Code) whe
       }
 
   -- The run's end is derived.
-  backward : {v : ℕ} {g : Graph} {t : Counts} → Ends v g t → Derived v g t
+  backward : {v : ℕ} {g : Graph} {t : RunCounts} → Ends v g t → Derived v g t
   unfolding start promotable outcome
   backward {v} {g} {t} e =
       returned (backs M fuel frames m v g t (evaluate c) [] [] 0 empty zeros (moves fuel frames)
@@ -105,7 +105,7 @@ module _ (M : FrameMachine) (c : M .Code) where
   out (heartbeat N) v g k p e = to-hb e
 
 module _ (M : FrameMachine) (fuel frames : ℕ) (m : Schedule) (c : M .Code) where
-  told : {v : ℕ} {g : Graph} {t : Counts} → Derived M fuel frames m c v g t → Told (published M m c) fuel frames v g t
+  told : {v : ℕ} {g : Graph} {t : RunCounts} → Derived M fuel frames m c v g t → Told (published M m c) fuel frames v g t
   told {v} {g} {t} a =
       let r = out M c m v (a .graph) (t .transitions) (t .deepest) (a .derivation) in
       record {
@@ -122,7 +122,7 @@ module _ (M : FrameMachine) (fuel frames : ℕ) (m : Schedule) (c : M .Code) whe
       }
 
   -- The counts of a derivation.
-  abbrev counts-of : {v : ℕ} → Reaches (published M m c) fuel frames v → Counts
+  abbrev counts-of : {v : ℕ} → Reaches (published M m c) fuel frames v → RunCounts
   counts-of r =
       record {
         transitions = published M m c .transitions (r .derivation);

@@ -8,7 +8,7 @@ use lib.ListN.{length, length-append}
 use Rattle.schedule.specs.Graph.{empty, transition}
 use Rattle.schedule.specs.Algebra.{graphs}
 use Rattle.schedule.specs.FrameMachine.{Control, evaluate, return, open-fork, FrameMachine}
-use Rattle.schedule.specs.Machine.{Counts, state, ongoing, Schedule, sequential, parallel, heartbeat, promoted-at-birth, promotion-due, move}
+use Rattle.schedule.specs.Machine.{RunCounts, state, ongoing, Schedule, sequential, parallel, heartbeat, promoted-at-birth, promotion-due, move}
 use Rattle.published.specs.CostGraph.{CostGraph, 𝟎, 𝟏, _·_, _∥_, work-of}
 use Rattle.published.specs.Judgments.{PlainFrame, awaiting-left, PlainStack, can-promote, Transition, continue, open-ordinary, open-both, close-ordinary, keep-ordinary, turn, join, is-fork, forks-at}
 use Rattle.published.specs.Resources.{fork-frames}
@@ -50,7 +50,7 @@ module _ (M : FrameMachine) (m : Schedule) where
   no-trans join a b = clash (cc)
 
   -- A machine makes one transition at most: the one that the flat machine makes.
-  ticked-same : {fuel frames : ℕ} {c d c' d' : Control (M .Code)} {S T S' T' : PlainStack M} {t : Counts}
+  ticked-same : {fuel frames : ℕ} {c d c' d' : Control (M .Code)} {S T S' T' : PlainStack M} {t : RunCounts}
       → Ticked M fuel frames false c S d T [] 0 empty t → Ticked M fuel frames false c' S' d' T' [] 0 empty t → c ≡ c' → S ≡ S'
       → (d ≡ d') × (T ≡ T')
   ticked-same {fuel} {frames} {c} {d} {c'} {d'} {S} {T} {S'} {T'} {t} a b ec es =
@@ -63,7 +63,7 @@ module _ (M : FrameMachine) (m : Schedule) where
   trans-same : {c d c' d' : Control (M .Code)} {S T S' T' : PlainStack M} → Transition M c S d T → Transition M c' S' d' T' → c ≡ c'
       → S ≡ S' → (d ≡ d') × (T ≡ T')
   trans-same {c} {d} {c'} {d'} {S} {T} {S'} {T'} x y ec es =
-      let t : Counts = record { transitions = 0; forks = 0; deepest = length S + length S' } in
+      let t : RunCounts = record { transitions = 0; forks = 0; deepest = length S + length S' } in
       ticked-same (ticked M 1 (length T + length T') false refl x [] 0 empty t (omega arith) (omega arith) (omega arith))
       (ticked M 1 (length T + length T') false refl y [] 0 empty t (omega arith) (omega arith) (omega arith)) ec es
 

@@ -9,7 +9,7 @@ use lib.ListN.{length, length-append}
 use Rattle.schedule.specs.Graph.{Graph, empty, transition, fork}
 use Rattle.schedule.specs.Algebra.{graphs}
 use Rattle.schedule.specs.FrameMachine.{Control, evaluate, return, open-fork, FrameMachine}
-use Rattle.schedule.specs.Machine.{plain-left, promoted-left, promoted-right, Stack, promotable, promote, Counts, split, deeper, State, state, Result, ongoing, Schedule, promoted-at-birth, promotion-due, move, step}
+use Rattle.schedule.specs.Machine.{plain-left, promoted-left, promoted-right, Stack, promotable, promote, RunCounts, split, deeper, State, state, Result, ongoing, Schedule, promoted-at-birth, promotion-due, move, step}
 use Rattle.schedule.specs.Runs.{and-then, run}
 use Rattle.schedule.proofs.Moves.{forks-freely, move-is, quiet-is, promotes, step-is}
 use Rattle.published.specs.CostGraph.{CostGraph, 𝟏, _·_, fork-count}
@@ -34,9 +34,9 @@ module _ (M : FrameMachine) (fuel frames : ℕ) (m : Schedule) where
   ends-as (on h a) j o e = let r = ends-as a j o e in (suc (r .0), rw h (r .1))
 
   -- The machine came to its value, above R.
-  pub record Lands (s : State graphs M) (v : ℕ) (R : Stack graphs M) (g : Graph) (t : Counts) (k f p : ℕ) : Type 0 where
+  pub record Lands (s : State graphs M) (v : ℕ) (R : Stack graphs M) (g : Graph) (t : RunCounts) (k f p : ℕ) : Type 0 where
     pub n : ℕ
-    pub t' : Counts
+    pub t' : RunCounts
     pub goes : Leads s (state (return v) R n g t')
     pub transitions : t' .transitions ≡ t .transitions + k
     pub forks : t' .forks ≡ t .forks + f
@@ -44,32 +44,32 @@ module _ (M : FrameMachine) (fuel frames : ℕ) (m : Schedule) where
 
   -- What a derivation promises: over any stack R with nothing to promote, after any graph h and counts t, within the limits.
   pub record Comes (c : Control (M .Code)) (S : PlainStack M) (n v : ℕ) (g : CostGraph) (k p : ℕ) : Type 0 where
-    pub to : (R : Stack graphs M) → promotable R ≡ false → (h : Graph) (t : Counts) → t.transitions + k ≤ fuel → length R + p ≤ frames
+    pub to : (R : Stack graphs M) → promotable R ≡ false → (h : Graph) (t : RunCounts) → t.transitions + k ≤ fuel → length R + p ≤ frames
         → length S + length R ≤ t.deepest
         → Lands (state c (S ⊕ R) n h t) v R (h ▹ g) t k (fork-count g) (length R + p)
 
-  pub step-quiet : (c : Control (M .Code)) (S : Stack graphs M) (n : ℕ) (h : Graph) (t : Counts) (u : Result graphs M)
+  pub step-quiet : (c : Control (M .Code)) (S : Stack graphs M) (n : ℕ) (h : Graph) (t : RunCounts) (u : Result graphs M)
       → promotion-due m n (promotable S) ≡ false → move graphs M fuel frames (promoted-at-birth m) (state c S n h t) ≡ u
       → step graphs M fuel frames m (state c S n h t) ≡ u
   step-quiet c S n h t u q e = quiet-is graphs M fuel frames m c S n h t q ∙ e
 
-  step-loud : (c : Control (M .Code)) (S : Stack graphs M) (n : ℕ) (h : Graph) (t : Counts) → promotion-due m n (promotable S) ≡ true
+  step-loud : (c : Control (M .Code)) (S : Stack graphs M) (n : ℕ) (h : Graph) (t : RunCounts) → promotion-due m n (promotable S) ≡ true
       → step graphs M fuel frames m (state c S n h t) ≡ ongoing (state c (promote h S) 0 empty (split t))
   step-loud c S n h t q = step-is graphs M fuel frames m (promotes q)
 
-  pub arrive-left : (v : ℕ) (X : Stack graphs M) (n : ℕ) (h g : Graph) (b : M .Fork) (t : Counts)
+  pub arrive-left : (v : ℕ) (X : Stack graphs M) (n : ℕ) (h g : Graph) (b : M .Fork) (t : RunCounts)
       → step graphs M fuel frames m (state (return v) (promoted-left h b ∷ X) n g t) ≡ ongoing
       (state (evaluate (M .right b)) (promoted-right h g b v ∷ X) 0 empty t)
   unfolding promotable move
   arrive-left v X n h g b t = step-quiet (return v) (promoted-left h b ∷ X) n g t _ (quiet m n) refl
 
-  pub arrive-right : (v w : ℕ) (X : Stack graphs M) (n : ℕ) (h l g : Graph) (b : M .Fork) (t : Counts)
+  pub arrive-right : (v w : ℕ) (X : Stack graphs M) (n : ℕ) (h l g : Graph) (b : M .Fork) (t : RunCounts)
       → step graphs M fuel frames m (state (return v) (promoted-right h l b w ∷ X) n g t) ≡ ongoing
       (state (evaluate (M .body b w v)) X 0 (fork h l g) t)
   unfolding promotable move
   arrive-right v w X n h l g b t = step-quiet (return v) (promoted-right h l b w ∷ X) n g t _ (quiet m n) refl
 
-  and-left : {s : State graphs M} {u w : ℕ} {h g G : Graph} {b : M .Fork} {X Z : Stack graphs M} {t : Counts} {k f p k2 f2 p2 : ℕ}
+  and-left : {s : State graphs M} {u w : ℕ} {h g G : Graph} {b : M .Fork} {X Z : Stack graphs M} {t : RunCounts} {k f p k2 f2 p2 : ℕ}
       (a : Lands s u (promoted-left h b ∷ X) g t k f p)
       → Lands (state (evaluate (M .right b)) (promoted-right h g b u ∷ X) 0 empty (a .t')) w Z G (a .t') k2 f2 p2
       → Lands s w Z G t (k + k2) (f + f2) (max p p2)
@@ -83,7 +83,7 @@ module _ (M : FrameMachine) (fuel frames : ℕ) (m : Schedule) where
         deepest = omega arith;
       }
 
-  and-rite : {s : State graphs M} {u w v : ℕ} {h l g G : Graph} {b : M .Fork} {X Z : Stack graphs M} {t : Counts} {k f p k2 f2 p2 : ℕ}
+  and-rite : {s : State graphs M} {u w v : ℕ} {h l g G : Graph} {b : M .Fork} {X Z : Stack graphs M} {t : RunCounts} {k f p k2 f2 p2 : ℕ}
       (a : Lands s w (promoted-right h l b u ∷ X) g t k f p)
       → Lands (state (evaluate (M .body b u w)) X 0 (fork h l g) (a .t')) v Z G (a .t') k2 f2 p2
       → Lands s v Z G t (k + k2) (f + f2) (max p p2)
@@ -97,7 +97,7 @@ module _ (M : FrameMachine) (fuel frames : ℕ) (m : Schedule) where
         deepest = omega arith;
       }
 
-  anew : {s : State graphs M} {v : ℕ} {g : Graph} {Z : Stack graphs M} {t : Counts} {k f p k2 f2 p2 : ℕ} → Lands s v Z g t k f p → k ≡ k2
+  anew : {s : State graphs M} {v : ℕ} {g : Graph} {Z : Stack graphs M} {t : RunCounts} {k f p k2 f2 p2 : ℕ} → Lands s v Z g t k f p → k ≡ k2
       → f ≡ f2 → p ≡ p2 → Lands s v Z g t k2 f2 p2
   anew a x y z = record { n = a .n; t' = a .t'; goes = a .goes; transitions = omega arith; forks = omega arith; deepest = omega arith }
 
@@ -105,7 +105,7 @@ module _ (M : FrameMachine) (fuel frames : ℕ) (m : Schedule) where
   module _ {c : Control (M .Code)} {b : M .Fork} {N Y : PlainStack M} {u w v : ℕ} {g1 g2 g3 : CostGraph} {k1 k2 k3 p1 p2 p3 : ℕ}
       (s1 : Comes c N 0 u g1 k1 p1) (s2 : Comes (evaluate (M .right b)) [] 0 w g2 k2 p2)
       (s3 : Comes (evaluate (M .body b u w)) Y 0 v g3 k3 p3)
-      (R : Stack graphs M) (hr : promotable R ≡ false) (h : Graph) (t : Counts) (fits : t.transitions + (k1 + k2 + k3) ≤ fuel)
+      (R : Stack graphs M) (hr : promotable R ≡ false) (h : Graph) (t : RunCounts) (fits : t.transitions + (k1 + k2 + k3) ≤ fuel)
       (holds : length R + fork-frames (length Y) p1 p2 p3 ≤ frames) (dp : length N + suc (length Y + length R) ≤ t.deepest) where
     third : {q : ℕ} → q ≡ suc (length R + length Y) + max p1 p2
         → Lands (state c (N ⊕ (promoted-left h b ∷ (Y ⊕ R))) 0 empty t) w (promoted-right h (empty ▹ g1) b u ∷ (Y ⊕ R)) (empty ▹ g2) t
@@ -131,7 +131,7 @@ module _ (M : FrameMachine) (fuel frames : ℕ) (m : Schedule) where
         second (s1 .to (promoted-left h b ∷ (Y ⊕ R)) refl empty t (omega arith) (omega arith) (omega arith))
 
   -- One step, then on.
-  first : {s u : State graphs M} {v : ℕ} {g : Graph} {Z : Stack graphs M} {t i : Counts} {k f p k2 f2 p2 : ℕ}
+  first : {s u : State graphs M} {v : ℕ} {g : Graph} {Z : Stack graphs M} {t i : RunCounts} {k f p k2 f2 p2 : ℕ}
       → step graphs M fuel frames m s ≡ ongoing u → Lands u v Z g i k f p
       → i .transitions + k ≡ t .transitions + k2 → i .forks + f ≡ t .forks + f2 → max (i .deepest) p ≡ max (t .deepest) p2
       → Lands s v Z g t k2 f2 p2
@@ -156,14 +156,14 @@ module _ (M : FrameMachine) (fuel frames : ℕ) (m : Schedule) where
         (s .to R hr (transition h) (a .t') (omega arith) (omega arith) (omega arith)) (omega arith) (omega arith) (omega arith);
   }
 
-  pub fork-move : (c d : M .Code) (b : M .Fork) (X : Stack graphs M) (n : ℕ) (h : Graph) (t : Counts) → promoted-at-birth m ≡ true
+  pub fork-move : (c d : M .Code) (b : M .Fork) (X : Stack graphs M) (n : ℕ) (h : Graph) (t : RunCounts) → promoted-at-birth m ≡ true
       → M .next c ≡ open-fork b d → length X < frames
       → step graphs M fuel frames m (state (evaluate c) X n h t) ≡ ongoing
       (state (evaluate d) (promoted-left h b ∷ X) 0 empty (deeper (length X + 1) (split t)))
   fork-move c d b X n h t bn e l =
       step-quiet (evaluate c) X n h t _ (born-quiet m n (promotable X) bn) (rw bn (move-is graphs M fuel frames (forks-freely e l)))
 
-  pub promote-move : (c : Control (M .Code)) (b : M .Fork) (S N Y : PlainStack M) (R : Stack graphs M) (n : ℕ) (h : Graph) (t : Counts)
+  pub promote-move : (c : Control (M .Code)) (b : M .Fork) (S N Y : PlainStack M) (R : Stack graphs M) (n : ℕ) (h : Graph) (t : RunCounts)
       → S ≡ N ++ (awaiting-left b ∷ Y) → promotion-due m n true ≡ true → can-promote Y ≡ false → promotable R ≡ false
       → step graphs M fuel frames m (state c (S ⊕ R) n h t) ≡ ongoing (state c (N ⊕ (promoted-left h b ∷ (Y ⊕ R))) 0 empty (split t))
   promote-move c b S N Y R n h t s q o hr =

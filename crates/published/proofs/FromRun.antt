@@ -9,7 +9,7 @@ use lib.ListN.{length, length-append}
 use Rattle.schedule.specs.Graph.{Graph, empty, transition, fork}
 use Rattle.schedule.specs.Algebra.{graphs}
 use Rattle.schedule.specs.FrameMachine.{Control, evaluate, return, open-fork, FrameMachine}
-use Rattle.schedule.specs.Machine.{ordinary, plain-left, plain-right, promoted-left, promoted-right, Stack, promotable, value, Counts, tick, split, deeper, State, state, Result, ended, ongoing, Schedule, promoted-at-birth, promotion-due, move, step}
+use Rattle.schedule.specs.Machine.{ordinary, plain-left, plain-right, promoted-left, promoted-right, Stack, promotable, value, RunCounts, tick, split, deeper, State, state, Result, ended, ongoing, Schedule, promoted-at-birth, promotion-due, move, step}
 use Rattle.schedule.specs.Runs.{and-then, run}
 use Rattle.schedule.proofs.Moves.{due-promotable, goes-on, opens, closes, keeps-frame, forks, turns, joins, forks-freely, MoveView, is-halt, is-step, move-view}
 use Rattle.published.specs.CostGraph.{CostGraph, 𝟎, 𝟏, _·_, _∥_, fork-count}
@@ -46,20 +46,20 @@ module _ {Frame Fork : Type 0} where
       on false h i = record { newer = []; b = b; older = S; is = refl; last = h }
   cut (awaiting-right b w ∷ S) e = under (awaiting-right b w) S (cut S e)
 
-module _ (M : FrameMachine) (fuel frames : ℕ) (m : Schedule) (v' : ℕ) (g' : Graph) (t' : Counts) where
+module _ (M : FrameMachine) (fuel frames : ℕ) (m : Schedule) (v' : ℕ) (g' : Graph) (t' : RunCounts) where
   -- The run from s ends in j moves.
   abbrev pub Ends : State graphs M → ℕ → Type 0
   Ends s j = run (step graphs M fuel frames m) j s ≡ ended (value v') g' t'
 
   -- The machine with stack S, above R, came to its value: the derivation, and the rest of the run.
-  pub record Back (c : Control (M .Code)) (S : PlainStack M) (R : Stack graphs M) (n : ℕ) (h : Graph) (t : Counts) (j : ℕ) : Type 0 where
+  pub record Back (c : Control (M .Code)) (S : PlainStack M) (R : Stack graphs M) (n : ℕ) (h : Graph) (t : RunCounts) (j : ℕ) : Type 0 where
     pub v : ℕ
     pub g : CostGraph
     pub k : ℕ
     pub p : ℕ
     pub eval : Eval M m c S n v g k p
     pub o : ℕ
-    pub i : Counts
+    pub i : RunCounts
     pub l : ℕ
     pub goes : Ends (state (return v) R o (h ▹ g) i) l
     pub less : l ≤ j
@@ -70,14 +70,14 @@ module _ (M : FrameMachine) (fuel frames : ℕ) (m : Schedule) (v' : ℕ) (g' : 
     pub holds : length R + p ≤ frames
 
   -- What is asked of the state.
-  pub record Fits (S : PlainStack M) (R : Stack graphs M) (t : Counts) : Type 0 where
+  pub record Fits (S : PlainStack M) (R : Stack graphs M) (t : RunCounts) : Type 0 where
     pub closed : promotable R ≡ false
     pub fits : t .transitions ≤ fuel
     pub holds : length S + length R ≤ frames
     pub deepest : length S + length R ≤ t .deepest
 
   abbrev Backs : ℕ → Type 0
-  Backs a = (c : Control (M .Code)) (S : PlainStack M) (R : Stack graphs M) (n : ℕ) (h : Graph) (t : Counts) (j : ℕ) → j ≤ a → Fits S R t
+  Backs a = (c : Control (M .Code)) (S : PlainStack M) (R : Stack graphs M) (n : ℕ) (h : Graph) (t : RunCounts) (j : ℕ) → j ≤ a → Fits S R t
       → Ends (state c (S ⊕ R) n h t) j → Back c S R n h t j
 
   -- One move on.
@@ -87,7 +87,7 @@ module _ (M : FrameMachine) (fuel frames : ℕ) (m : Schedule) (v' : ℕ) (g' : 
   next s u (suc j) e h = (j, rw h at e, omega arith)
 
   -- Left, right and body: the three derivations, and the rest of the run.
-  pub record Both (c : Control (M .Code)) (b : M .Fork) (N Y : PlainStack M) (R : Stack graphs M) (h : Graph) (t : Counts) (j : ℕ) : Type 0
+  pub record Both (c : Control (M .Code)) (b : M .Fork) (N Y : PlainStack M) (R : Stack graphs M) (h : Graph) (t : RunCounts) (j : ℕ) : Type 0
     where
       pub u : ℕ
       pub w : ℕ
@@ -105,7 +105,7 @@ module _ (M : FrameMachine) (fuel frames : ℕ) (m : Schedule) (v' : ℕ) (g' : 
       pub e2 : Eval M m (evaluate (M .right b)) [] 0 w g2 k2 p2
       pub e3 : Eval M m (evaluate (M .body b u w)) Y 0 v g3 k3 p3
       pub o : ℕ
-      pub i : Counts
+      pub i : RunCounts
       pub l : ℕ
       pub goes : Ends (state (return v) R o (fork h (empty ▹ g1) (empty ▹ g2) ▹ g3) i) l
       pub less : l ≤ j
@@ -115,7 +115,7 @@ module _ (M : FrameMachine) (fuel frames : ℕ) (m : Schedule) (v' : ℕ) (g' : 
       pub fits : i .transitions ≤ fuel
       pub holds : length R + fork-frames (length Y) p1 p2 p3 ≤ frames
 
-  module _ (a : ℕ) (ih : Backs a) (c : Control (M .Code)) (b : M .Fork) (N Y : PlainStack M) (R : Stack graphs M) (h : Graph) (t : Counts)
+  module _ (a : ℕ) (ih : Backs a) (c : Control (M .Code)) (b : M .Fork) (N Y : PlainStack M) (R : Stack graphs M) (h : Graph) (t : RunCounts)
       (j : ℕ) (le : j ≤ a)
       (hr : promotable R ≡ false) (fits : t .transitions ≤ fuel) (holds : length N + suc (length Y + length R) ≤ frames)
       (dp : length N + suc (length Y + length R) ≤ t .deepest) where
@@ -182,7 +182,7 @@ module _ (M : FrameMachine) (fuel frames : ℕ) (m : Schedule) (v' : ℕ) (g' : 
   clash e = absurd (omega arith)
 
   -- After a transition.
-  trans-back : {c d : Control (M .Code)} {S T : PlainStack M} {R : Stack graphs M} {n : ℕ} {h : Graph} {t i : Counts} {j : ℕ}
+  trans-back : {c d : Control (M .Code)} {S T : PlainStack M} {R : Stack graphs M} {n : ℕ} {h : Graph} {t i : RunCounts} {j : ℕ}
       → promotion-due m n (can-promote S) ≡ false → promoted-at-birth m && forks-at M c ≡ false → Transition M c S d T
       → Fits S R t → i .transitions ≡ t .transitions + 1 → i .forks ≡ t .forks → i .deepest ≡ max (t .deepest) (length T + length R)
       → Back d T R (n + 1) (transition h) i j → Back c S R n h t (suc j)
@@ -207,7 +207,7 @@ module _ (M : FrameMachine) (fuel frames : ℕ) (m : Schedule) (v' : ℕ) (g' : 
         holds = omega arith;
       }
 
-  fork-back : {c d : M .Code} {b : M .Fork} {S : PlainStack M} {R : Stack graphs M} {n : ℕ} {h : Graph} {t i : Counts} {j : ℕ}
+  fork-back : {c d : M .Code} {b : M .Fork} {S : PlainStack M} {R : Stack graphs M} {n : ℕ} {h : Graph} {t i : RunCounts} {j : ℕ}
       → promoted-at-birth m ≡ true → M .next c ≡ open-fork b d
       → i .transitions ≡ t .transitions → i .forks ≡ t .forks + 1 → i .deepest ≡ max (t .deepest) (suc (length S + length R))
       → Both (evaluate d) b [] S R h i j → Back (evaluate c) S R n h t (suc j)
@@ -231,7 +231,7 @@ module _ (M : FrameMachine) (fuel frames : ℕ) (m : Schedule) (v' : ℕ) (g' : 
         holds = a .holds;
       }
 
-  promote-back : {c : Control (M .Code)} {b : M .Fork} {S N Y : PlainStack M} {R : Stack graphs M} {n : ℕ} {h : Graph} {t : Counts} {j : ℕ}
+  promote-back : {c : Control (M .Code)} {b : M .Fork} {S N Y : PlainStack M} {R : Stack graphs M} {n : ℕ} {h : Graph} {t : RunCounts} {j : ℕ}
       → S ≡ N ++ (awaiting-left b ∷ Y) → promotion-due m n true ≡ true → can-promote Y ≡ false
       → Both c b N Y R h (split t) j → Back c S R n h t (suc j)
   unfolding _▹_ fork-count
@@ -258,7 +258,7 @@ module _ (M : FrameMachine) (fuel frames : ℕ) (m : Schedule) (v' : ℕ) (g' : 
     abbrev Then : Result graphs M → Type 0
     Then u = and-then u (run (step graphs M fuel frames m) j) ≡ ended (value v') g' t'
 
-    in-ev : {c : M .Code} {S : PlainStack M} {R : Stack graphs M} {n : ℕ} {h : Graph} {t : Counts} {u : Result graphs M} (q : Bool)
+    in-ev : {c : M .Code} {S : PlainStack M} {R : Stack graphs M} {n : ℕ} {h : Graph} {t : RunCounts} {u : Result graphs M} (q : Bool)
         → promoted-at-birth m ≡ q → MoveView graphs M fuel frames q (state (evaluate c) (S ⊕ R) n h t) u
         → promotion-due m n (can-promote S) ≡ false → Fits S R t → Then u → Back (evaluate c) S R n h t (suc j)
     unfolding and-then forks-at is-fork
@@ -283,7 +283,7 @@ module _ (M : FrameMachine) (fuel frames : ℕ) (m : Schedule) (v' : ℕ) (g' : 
         (both a ih (evaluate d) b [] S R h (deeper (length (S ⊕ R) + 1) (split t)) j le (s .closed) (s .fits) (omega arith)
         (omega arith) e)
 
-    in-ordinary : {f : M .Frame} {w : ℕ} {S : PlainStack M} {R : Stack graphs M} {n : ℕ} {h : Graph} {t : Counts} {u : Result graphs M}
+    in-ordinary : {f : M .Frame} {w : ℕ} {S : PlainStack M} {R : Stack graphs M} {n : ℕ} {h : Graph} {t : RunCounts} {u : Result graphs M}
         (q : Bool) → MoveView graphs M fuel frames q (state (return w) (ordinary f ∷ (S ⊕ R)) n h t) u
         → promotion-due m n (can-promote (ordinary-frame f ∷ S)) ≡ false → Fits (ordinary-frame f ∷ S) R t → Then u
         → Back (return w) (ordinary-frame f ∷ S) R n h t (suc j)
@@ -298,7 +298,7 @@ module _ (M : FrameMachine) (fuel frames : ℕ) (m : Schedule) (v' : ℕ) (g' : 
         (ih (evaluate d) (ordinary-frame y ∷ S) R (n + 1) (transition h) (tick t) j le
         (record { closed = s .closed; fits = omega arith; holds = omega arith; deepest = omega arith }) e)
 
-    in-left : {b : M .Fork} {w : ℕ} {S : PlainStack M} {R : Stack graphs M} {n : ℕ} {h : Graph} {t : Counts} {u : Result graphs M}
+    in-left : {b : M .Fork} {w : ℕ} {S : PlainStack M} {R : Stack graphs M} {n : ℕ} {h : Graph} {t : RunCounts} {u : Result graphs M}
         (q : Bool) → MoveView graphs M fuel frames q (state (return w) (plain-left b ∷ (S ⊕ R)) n h t) u
         → promotion-due m n (can-promote (awaiting-left b ∷ S)) ≡ false → Fits (awaiting-left b ∷ S) R t → Then u
         → Back (return w) (awaiting-left b ∷ S) R n h t (suc j)
@@ -309,7 +309,7 @@ module _ (M : FrameMachine) (fuel frames : ℕ) (m : Schedule) (v' : ℕ) (g' : 
         (ih (evaluate (M .right b)) (awaiting-right b w ∷ S) R (n + 1) (transition h) (tick t) j le
         (record { closed = s .closed; fits = omega arith; holds = omega arith; deepest = omega arith }) e)
 
-    in-right : {b : M .Fork} {w o : ℕ} {S : PlainStack M} {R : Stack graphs M} {n : ℕ} {h : Graph} {t : Counts} {u : Result graphs M}
+    in-right : {b : M .Fork} {w o : ℕ} {S : PlainStack M} {R : Stack graphs M} {n : ℕ} {h : Graph} {t : RunCounts} {u : Result graphs M}
         (q : Bool) → MoveView graphs M fuel frames q (state (return w) (plain-right b o ∷ (S ⊕ R)) n h t) u
         → promotion-due m n (can-promote (awaiting-right b o ∷ S)) ≡ false → Fits (awaiting-right b o ∷ S) R t → Then u
         → Back (return w) (awaiting-right b o ∷ S) R n h t (suc j)
@@ -321,7 +321,7 @@ module _ (M : FrameMachine) (fuel frames : ℕ) (m : Schedule) (v' : ℕ) (g' : 
         (record { closed = s .closed; fits = omega arith; holds = omega arith; deepest = omega arith }) e)
 
     -- A move that is no promotion.
-    in-any : (c : Control (M .Code)) (S : PlainStack M) (R : Stack graphs M) (n : ℕ) (h : Graph) (t : Counts)
+    in-any : (c : Control (M .Code)) (S : PlainStack M) (R : Stack graphs M) (n : ℕ) (h : Graph) (t : RunCounts)
         → Ends (state c (S ⊕ R) n h t) (suc j) → promotion-due m n (can-promote S) ≡ false
         → Fits S R t → Then (move graphs M fuel frames (promoted-at-birth m) (state c (S ⊕ R) n h t)) → Back c S R n h t (suc j)
     unfolding fork-count _▹_
@@ -355,7 +355,7 @@ module _ (M : FrameMachine) (fuel frames : ℕ) (m : Schedule) (v' : ℕ) (g' : 
         in-right (promoted-at-birth m)
         (move-view graphs M fuel frames (promoted-at-birth m) (state (return w) (plain-right b o ∷ (S ⊕ R)) n h t)) q s i
 
-    in-promote : (c : Control (M .Code)) (S : PlainStack M) (R : Stack graphs M) (n : ℕ) (h : Graph) (t : Counts)
+    in-promote : (c : Control (M .Code)) (S : PlainStack M) (R : Stack graphs M) (n : ℕ) (h : Graph) (t : RunCounts)
         → promotion-due m n true ≡ true → Fits S R t → Cut S → Ends (state c (S ⊕ R) n h t) (suc j) → Back c S R n h t (suc j)
     unfolding run and-then
     in-promote c S R n h t q s x e =
@@ -365,7 +365,7 @@ module _ (M : FrameMachine) (fuel frames : ℕ) (m : Schedule) (v' : ℕ) (g' : 
         (both a ih c (x .b) (x .newer) (x .older) R h (split t) j le (s .closed) (s .fits) (omega arith) (omega arith)
         (rw (promote-move M fuel frames m c (x .b) S (x .newer) (x .older) R n h t (x .is) q (x .last) (s .closed)) at e))
 
-    one-back : (c : Control (M .Code)) (S : PlainStack M) (R : Stack graphs M) (n : ℕ) (h : Graph) (t : Counts) → Fits S R t
+    one-back : (c : Control (M .Code)) (S : PlainStack M) (R : Stack graphs M) (n : ℕ) (h : Graph) (t : RunCounts) → Fits S R t
         → Ends (state c (S ⊕ R) n h t) (suc j) → Back c S R n h t (suc j)
     unfolding run step
     one-back c S R n h t s e = on (promotion-due m n (promotable (S ⊕ R))) refl
@@ -383,6 +383,6 @@ module _ (M : FrameMachine) (fuel frames : ℕ) (m : Schedule) (v' : ℕ) (g' : 
   back-at (suc a) c S R n h t zero le s e = clash (cc)
   back-at (suc a) c S R n h t (suc j) le s e = one-back a (back-at a) j (omega arith) c S R n h t s e
 
-  pub backs : (c : Control (M .Code)) (S : PlainStack M) (R : Stack graphs M) (n : ℕ) (h : Graph) (t : Counts) (j : ℕ) → Fits S R t
+  pub backs : (c : Control (M .Code)) (S : PlainStack M) (R : Stack graphs M) (n : ℕ) (h : Graph) (t : RunCounts) (j : ℕ) → Fits S R t
       → Ends (state c (S ⊕ R) n h t) j → Back c S R n h t j
   backs c S R n h t j = back-at j c S R n h t j (omega arith)

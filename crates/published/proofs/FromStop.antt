@@ -10,7 +10,7 @@ use borrow.Author.Tests.{le-ltb}
 use Rattle.schedule.specs.Graph.{Graph, empty, transition, fork}
 use Rattle.schedule.specs.Algebra.{graphs}
 use Rattle.schedule.specs.FrameMachine.{Place, Control, evaluate, Next, go-on, open-frame, open-fork, stuck, Arrival, close, keep, fail, FrameMachine}
-use Rattle.schedule.specs.Machine.{promoted-left, promoted-right, Stack, promotable, stop, Counts, split, deeper, State, state, Result, ended, ongoing, Schedule, promoted-at-birth, promotion-due, with-fuel, evaluated, arrived, move, step}
+use Rattle.schedule.specs.Machine.{promoted-left, promoted-right, Stack, promotable, stop, RunCounts, split, deeper, State, state, Result, ended, ongoing, Schedule, promoted-at-birth, promotion-due, with-fuel, evaluated, arrived, move, step}
 use Rattle.schedule.specs.Runs.{and-then, run}
 use Rattle.schedule.proofs.Moves.{at-code, at-frame, no-frame, no-fork-frame, stuck-is}
 use Rattle.published.specs.CostGraph.{CostGraph}
@@ -23,13 +23,13 @@ use Rattle.published.proofs.Stopping.{Splits, at-birth, at-promotion, S
 
 module _ (M : FrameMachine) (fuel frames : ℕ) where
   -- Where the fuel is spent, a transition stops.
-  spent : (p : Place) (g : Graph) (t : Counts) (o : Result graphs M) → fuel ≤ t .transitions
+  spent : (p : Place) (g : Graph) (t : RunCounts) (o : Result graphs M) → fuel ≤ t .transitions
       → with-fuel graphs M fuel frames p g t o ≡ ended (stop 20 p) g t
   unfolding with-fuel
   spent p g t o h = rw (le-ltb (t .transitions) fuel h)
 
   spent-at-node : (q : Bool) (p : Place) (o : Next (M .Code) (M .Frame) (M .Fork)) → q && is-fork M o ≡ false
-      → (S : Stack graphs M) (n : ℕ) (g : Graph) (t : Counts) → fuel ≤ t .transitions
+      → (S : Stack graphs M) (n : ℕ) (g : Graph) (t : RunCounts) → fuel ≤ t .transitions
       → evaluated graphs M fuel frames q p o S n g t ≡ ended (stop 20 p) g t
   unfolding evaluated is-fork
   spent-at-node q p (go-on d) f S n g t h = spent p g t _ h
@@ -38,7 +38,7 @@ module _ (M : FrameMachine) (fuel frames : ℕ) where
   spent-at-node false p (open-fork b d) f S n g t h = spent p g t _ h
   spent-at-node q p (stuck i) f S n g t h = spent p g t _ h
 
-  spent-at-frame : (p : Place) (o : Arrival (M .Code) (M .Frame)) (S : Stack graphs M) (n : ℕ) (g : Graph) (t : Counts)
+  spent-at-frame : (p : Place) (o : Arrival (M .Code) (M .Frame)) (S : Stack graphs M) (n : ℕ) (g : Graph) (t : RunCounts)
       → fuel ≤ t .transitions → arrived graphs M fuel frames p o S n g t ≡ ended (stop 20 p) g t
   unfolding arrived
   spent-at-frame p (close d) S n g t h = spent p g t _ h
@@ -46,7 +46,7 @@ module _ (M : FrameMachine) (fuel frames : ℕ) where
   spent-at-frame p (fail i) S n g t h = spent p g t _ h
 
   spent-at : {c : Control (M .Code)} {S : PlainStack M} {p : Place} (q : Bool) → q && forks-at M c ≡ false → Awaits M c S p
-      → (R : Stack graphs M) (n : ℕ) (h : Graph) (t : Counts) → fuel ≤ t .transitions
+      → (R : Stack graphs M) (n : ℕ) (h : Graph) (t : RunCounts) → fuel ≤ t .transitions
       → move graphs M fuel frames q (state c (S ⊕ R) n h t) ≡ ended (stop 20 p) h t
   unfolding move forks-at
   spent-at q f (at-node {c = c} {S = S}) R n h t l = spent-at-node q (M .code-place c) (M .next c) f (S ⊕ R) n h t l
@@ -56,7 +56,7 @@ module _ (M : FrameMachine) (fuel frames : ℕ) where
 
   -- A transition that cannot be taken, above R.
   halts-at : {left own : ℕ} {c : Control (M .Code)} {S : PlainStack M} {i : ℕ} {p : Place} (q : Bool) → q && forks-at M c ≡ false
-      → Halts M left own c S i p → (R : Stack graphs M) (n : ℕ) (h : Graph) (t : Counts)
+      → Halts M left own c S i p → (R : Stack graphs M) (n : ℕ) (h : Graph) (t : RunCounts)
       → t .transitions + left ≡ fuel → length R + own ≡ frames
       → move graphs M fuel frames q (state c (S ⊕ R) n h t) ≡ ended (stop i p) h t
   halts-at q f (fuel-spent e a) R n h t l r = spent-at q f a R n h t (omega arith)
@@ -72,11 +72,11 @@ module _ (M : FrameMachine) (fuel frames : ℕ) (m : Schedule) where
   pub record Halted (s : State graphs M) (i : ℕ) (p : Place) (k : ℕ) : Type 0 where
     pub j : ℕ
     pub g : Graph
-    pub t : Counts
+    pub t : RunCounts
     pub goes : run (step graphs M fuel frames m) j s ≡ ended (stop i p) g t
     pub transitions : t .transitions ≡ k
 
-  at-once : {s : State graphs M} {i : ℕ} {p : Place} (h : Graph) (t : Counts) → step graphs M fuel frames m s ≡ ended (stop i p) h t
+  at-once : {s : State graphs M} {i : ℕ} {p : Place} (h : Graph) (t : RunCounts) → step graphs M fuel frames m s ≡ ended (stop i p) h t
       → Halted s i p (t .transitions)
   unfolding run and-then
   at-once h t e = record { j = 1; g = h; t = t; goes = rw e; transitions = refl }
@@ -91,13 +91,13 @@ module _ (M : FrameMachine) (fuel frames : ℕ) (m : Schedule) where
   one e = on e stay
 
   -- The change to the right branch, and the join, after a value.
-  then-right : {s : State graphs M} {u : ℕ} {h g : Graph} {b : M .Fork} {X : Stack graphs M} {t : Counts} {k f p : ℕ}
+  then-right : {s : State graphs M} {u : ℕ} {h g : Graph} {b : M .Fork} {X : Stack graphs M} {t : RunCounts} {k f p : ℕ}
       (a : Lands M fuel frames m s u (promoted-left h b ∷ X) g t k f p)
       → Leads M fuel frames m s (state (evaluate (M .right b)) (promoted-right h g b u ∷ X) 0 empty (a .t'))
   then-right {u = u} {h = h} {g = g} {b = b} {X = X} a =
       onto M fuel frames m (a .goes) (one (arrive-left M fuel frames m u X (a .n) h g b (a .t')))
 
-  then-body : {s : State graphs M} {u w : ℕ} {h l g : Graph} {b : M .Fork} {X : Stack graphs M} {t : Counts} {k f p : ℕ}
+  then-body : {s : State graphs M} {u w : ℕ} {h l g : Graph} {b : M .Fork} {X : Stack graphs M} {t : RunCounts} {k f p : ℕ}
       (a : Lands M fuel frames m s w (promoted-right h l b u ∷ X) g t k f p)
       → Leads M fuel frames m s (state (evaluate (M .body b u w)) X 0 (fork h l g) (a .t'))
   then-body {u = u} {w = w} {h = h} {l = l} {g = g} {b = b} {X = X} a =
@@ -105,19 +105,19 @@ module _ (M : FrameMachine) (fuel frames : ℕ) (m : Schedule) where
 
   -- What a derivation promises.
   pub record Halting (left own : ℕ) (c : Control (M .Code)) (S : PlainStack M) (n i : ℕ) (p : Place) (k : ℕ) : Type 0 where
-    pub to : (R : Stack graphs M) → promotable R ≡ false → (h : Graph) (t : Counts) → t .transitions + left ≡ fuel → length R + own ≡ frames
+    pub to : (R : Stack graphs M) → promotable R ≡ false → (h : Graph) (t : RunCounts) → t .transitions + left ≡ fuel → length R + own ≡ frames
         → length S + length R ≤ t .deepest → Halted (state c (S ⊕ R) n h t) i p (t .transitions + k)
 
   -- The state after a split.
-  pub record Split (c d : Control (M .Code)) (S N Y : PlainStack M) (b : M .Fork) (n : ℕ) (R : Stack graphs M) (h : Graph) (t : Counts)
+  pub record Split (c d : Control (M .Code)) (S N Y : PlainStack M) (b : M .Fork) (n : ℕ) (R : Stack graphs M) (h : Graph) (t : RunCounts)
       : Type 0 where
-    pub t' : Counts
+    pub t' : RunCounts
     pub goes : step graphs M fuel frames m (state c (S ⊕ R) n h t) ≡ ongoing (state d (N ⊕ (promoted-left h b ∷ (Y ⊕ R))) 0 empty t')
     pub transitions : t' .transitions ≡ t .transitions
     pub deepest : length N + suc (length Y + length R) ≤ t' .deepest
 
   splits-at : {c d : Control (M .Code)} {S N Y : PlainStack M} {b : M .Fork} {n : ℕ} (free : ℕ) → Splits M m c S n d N b Y
-      → (R : Stack graphs M) → promotable R ≡ false → (h : Graph) (t : Counts) → length R + (length Y + 1 + free) ≡ frames
+      → (R : Stack graphs M) → promotable R ≡ false → (h : Graph) (t : RunCounts) → length R + (length Y + 1 + free) ≡ frames
       → length S + length R ≤ t .deepest → Split c d S N Y b n R h t
   splits-at free (at-birth {c = c} {d = d} {b = b} {S = S} {n = n} q e) R hr h t r dp =
       let ls = length-over S R in
@@ -138,7 +138,7 @@ module _ (M : FrameMachine) (fuel frames : ℕ) (m : Schedule) where
       }
 
   module _ {c d : Control (M .Code)} {S N Y : PlainStack M} {b : M .Fork} {n : ℕ} (free : ℕ) (x : Splits M m c S n d N b Y)
-      (R : Stack graphs M) (hr : promotable R ≡ false) (h : Graph) (t : Counts) (r : length R + (length Y + 1 + free) ≡ frames)
+      (R : Stack graphs M) (hr : promotable R ≡ false) (h : Graph) (t : RunCounts) (r : length R + (length Y + 1 + free) ≡ frames)
       (dp : length S + length R ≤ t .deepest) where
     abbrev s0 : State graphs M
     s0 = state c (S ⊕ R) n h t
@@ -159,7 +159,7 @@ module _ (M : FrameMachine) (fuel frames : ℕ) (m : Schedule) where
 
     -- The left machine comes to its value, and the right one starts.
     record Turned (u : ℕ) (g : CostGraph) (k1 : ℕ) : Type 0 where
-      t' : Counts
+      t' : RunCounts
       goes : Leads M fuel frames m s0 (state (evaluate (M .right b)) (promoted-right h (empty ▹ g) b u ∷ (Y ⊕ R)) 0 empty t')
       transitions : t' .transitions ≡ t .transitions + k1
       deepest : suc (length Y + length R) ≤ t' .deepest

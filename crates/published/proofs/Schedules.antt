@@ -11,7 +11,7 @@ use lib.ListN.{length, length-append}
 use Rattle.schedule.specs.Graph.{Graph, transition}
 use Rattle.schedule.specs.Algebra.{graphs}
 use Rattle.schedule.specs.FrameMachine.{Control, evaluate, return, open-fork, FrameMachine}
-use Rattle.schedule.specs.Machine.{Slot, ordinary, plain-left, plain-right, promoted-left, promoted-right, Stack, promotable, promote, Counts, tick, deeper, state, ongoing, Schedule, sequential, parallel, heartbeat, promoted-at-birth, promotion-due, move}
+use Rattle.schedule.specs.Machine.{Slot, ordinary, plain-left, plain-right, promoted-left, promoted-right, Stack, promotable, promote, RunCounts, tick, deeper, state, ongoing, Schedule, sequential, parallel, heartbeat, promoted-at-birth, promotion-due, move}
 use Rattle.schedule.proofs.Moves.{goes-on, opens, closes, keeps-frame, forks, turns, joins, move-is}
 use Rattle.published.specs.CostGraph.{CostGraph, 𝟎, 𝟏, _·_, _∥_}
 use Rattle.published.specs.Judgments.{PlainFrame, ordinary-frame, awaiting-left, awaiting-right, PlainStack, can-promote, Transition, continue, open-ordinary, open-both, close-ordinary, keep-ordinary, turn, join, is-fork, forks-at}
@@ -132,15 +132,15 @@ tall (by-promotion {b = b} {newer = N} {older = Y} s q h e1 e2 e3) =
 module _ (M : FrameMachine) (fuel frames : ℕ) where
   -- A transition of the machine with stack S, above R.
   pub record Ticked (q : Bool) (c : Control (M .Code)) (S : PlainStack M) (d : Control (M .Code)) (T : PlainStack M) (R : Stack graphs M)
-      (n : ℕ) (h : Graph) (t : Counts) : Type 0 where
-    pub t' : Counts
+      (n : ℕ) (h : Graph) (t : RunCounts) : Type 0 where
+    pub t' : RunCounts
     pub goes : move graphs M fuel frames q (state c (S ⊕ R) n h t) ≡ ongoing (state d (T ⊕ R) (n + 1) (transition h) t')
     pub transitions : t' .transitions ≡ t .transitions + 1
     pub forks : t' .forks ≡ t .forks
     pub deepest : t' .deepest ≡ max (t .deepest) (length T + length R)
 
   pub ticked : {c d : Control (M .Code)} {S T : PlainStack M} (q : Bool) → q && forks-at M c ≡ false → Transition M c S d T
-      → (R : Stack graphs M) (n : ℕ) (h : Graph) (t : Counts)
+      → (R : Stack graphs M) (n : ℕ) (h : Graph) (t : RunCounts)
       → t.transitions < fuel → length T + length R ≤ frames → length S + length R ≤ t.deepest → Ticked q c S d T R n h t
   unfolding forks-at is-fork
   ticked q f (continue e) R n h t l r p =

@@ -9,7 +9,7 @@ use lib.ListN.{length}
 use Rattle.schedule.specs.Graph.{Graph, empty}
 use Rattle.schedule.specs.Algebra.{graphs}
 use Rattle.schedule.specs.FrameMachine.{Place, Control, evaluate, return, FrameMachine}
-use Rattle.schedule.specs.Machine.{promotable, value, stop, Counts, zeros, State, state, ended, Schedule, sequential, parallel, heartbeat, move, step, start}
+use Rattle.schedule.specs.Machine.{promotable, value, stop, RunCounts, zeros, State, state, ended, Schedule, sequential, parallel, heartbeat, move, step, start}
 use Rattle.schedule.specs.Runs.{and-then, run, moves, outcome}
 use Rattle.schedule.proofs.Runs.{same-end}
 use Rattle.schedule.proofs.Finish.{finishes}
@@ -62,7 +62,7 @@ module _ (M : FrameMachine) (fuel frames : ℕ) (m : Schedule) where
   stops-once a b = let s = same-halt (halts-alone a) (halts-alone b) in (s .0, s .1, omega arith)
 
   -- A run that comes to a value does not stop.
-  one-end : {s : State graphs M} {v i : ℕ} {p : Place} {k : ℕ} {g : Graph} {t : Counts} {k' f q : ℕ}
+  one-end : {s : State graphs M} {v i : ℕ} {p : Place} {k : ℕ} {g : Graph} {t : RunCounts} {k' f q : ℕ}
       → Lands M fuel frames m s v [] g t k' f q → Halted M fuel frames m s i p k → ⊥
   unfolding promotable move run and-then
   one-end {s} {v} {g = g} a b =

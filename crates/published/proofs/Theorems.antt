@@ -5,7 +5,7 @@ use mathlib.Core.List.{[]}
 use native.Mathlib.Omega.{arith}
 use Rattle.schedule.specs.Graph.{Graph, work, span}
 use Rattle.schedule.specs.FrameMachine.{evaluate, FrameMachine}
-use Rattle.schedule.specs.Machine.{Counts, sequential, parallel, heartbeat}
+use Rattle.schedule.specs.Machine.{RunCounts, sequential, parallel, heartbeat}
 use Rattle.schedule.proofs.Demand.{demand-3}
 use Rattle.published.specs.CostGraph.{CostGraph, work-of, span-of, fork-count, flat}
 use Rattle.published.specs.Judgments.{Sequential, Parallel, Heartbeat}
@@ -17,7 +17,7 @@ use Rattle.published.proofs.Sequentially.{from-parallel, from-heartbeat
 use Rattle.published.proofs.Deterministic.{parallel-deterministic}
 use Rattle.published.proofs.Adequacy.{adequate}
 
-module _ {J : Judgment} {fuel frames v : ℕ} {g : Graph} {t : Counts} (τ : ℕ) (d : Told J fuel frames v g t) where
+module _ {J : Judgment} {fuel frames v : ℕ} {g : Graph} {t : RunCounts} (τ : ℕ) (d : Told J fuel frames v g t) where
   told-work : work τ g ≡ work-of τ (d .reaches .graph)
   told-work = ap (work τ) (d .graph-is) ∙ work-flat τ (d .reaches .graph)
 
@@ -38,7 +38,7 @@ beside : (M : FrameMachine) (N τ : ℕ) (c : M .Code) (v : ℕ) (g : CostGraph)
 beside M N τ c v g N-positive τ-positive d =
     let fuel = seq-transitions d in
     let frames = seq-frames d in
-    let t : Counts = record { transitions = fuel; forks = fork-count g; deepest = frames } in
+    let t : RunCounts = record { transitions = fuel; forks = fork-count g; deepest = frames } in
     let s : Told (published M sequential c) fuel frames v (flat g) t = record {
       reaches = record { graph = g; derivation = d; within-fuel = omega arith; within-frames = omega arith };
       graph-is = refl;

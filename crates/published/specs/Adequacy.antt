@@ -7,7 +7,7 @@ use mathlib.Core.Logic.{_↔_}
 use Rattle.schedule.specs.Graph.{Graph}
 use Rattle.schedule.specs.Algebra.{graphs}
 use Rattle.schedule.specs.FrameMachine.{Place, Control, evaluate, FrameMachine}
-use Rattle.schedule.specs.Machine.{value, stop, Counts, ended, Schedule, sequential, parallel, heartbeat}
+use Rattle.schedule.specs.Machine.{value, stop, RunCounts, ended, Schedule, sequential, parallel, heartbeat}
 use Rattle.schedule.specs.Runs.{outcome, EndsIn}
 use Rattle.published.specs.CostGraph.{CostGraph, work-of, fork-count, flat}
 use Rattle.published.specs.Judgments.{PlainStack, Sequential, Parallel, Heartbeat}
@@ -36,7 +36,7 @@ pub record Reaches (J : Judgment) (fuel frames v : ℕ) : Type 0 where
   pub within-frames : J .frames derivation ≤ frames
 
 -- And what a run tells of it: g is the graph of the derivation, and t are its counts.
-pub record Told (J : Judgment) (fuel frames v : ℕ) (g : Graph) (t : Counts) : Type 0 where
+pub record Told (J : Judgment) (fuel frames v : ℕ) (g : Graph) (t : RunCounts) : Type 0 where
   pub reaches : Reaches J fuel frames v
   pub graph-is : g ≡ flat (reaches .graph)
   pub transitions-are : t .transitions ≡ J .transitions (reaches .derivation)
@@ -45,7 +45,7 @@ pub record Told (J : Judgment) (fuel frames v : ℕ) (g : Graph) (t : Counts) : 
 
 -- THEOREM (proofs/Adequacy.antt, `adequate`), for every frame machine and each of the three schedules.
 abbrev pub Adequate : Type 1
-Adequate = (M : FrameMachine) (fuel frames : ℕ) (m : Schedule) (c : M .Code) (v : ℕ) (g : Graph) (t : Counts)
+Adequate = (M : FrameMachine) (fuel frames : ℕ) (m : Schedule) (c : M .Code) (v : ℕ) (g : Graph) (t : RunCounts)
     → (outcome graphs M fuel frames m c ≡ ended (value v) g t) ↔ Told (published M m c) fuel frames v g t
 
 -- THEOREM (`value-iff-reached`): a value is given iff the published semantics reaches it within the fuel and the frames.
@@ -55,7 +55,7 @@ ValueIffReached = (M : FrameMachine) (fuel frames : ℕ) (m : Schedule) (c : M .
 
 -- THEOREM (`stop-reaches-none`): where a run stops, nothing is derived within them.
 abbrev pub StopReachesNone : Type 1
-StopReachesNone = (M : FrameMachine) (fuel frames : ℕ) (m : Schedule) (c : M .Code) (i : ℕ) (p : Place) (g : Graph) (t : Counts)
+StopReachesNone = (M : FrameMachine) (fuel frames : ℕ) (m : Schedule) (c : M .Code) (i : ℕ) (p : Place) (g : Graph) (t : RunCounts)
     → outcome graphs M fuel frames m c ≡ ended (stop i p) g t → (v : ℕ) → Reaches (published M m c) fuel frames v → ⊥
 
 -- THEOREM (`transitions-by-graph`): the transitions of a derivation are the work of its graph where a fork costs nothing. So the transitions, forks,

@@ -19,7 +19,7 @@ Correctness = (M : FrameMachine) (N : ℕ) (c : M .Code) (v : ℕ) → 1 ≤ N
     × (Some (Parallel M (evaluate c) [] v) ↔ Some (Heartbeat M N (evaluate c) [] 0 v))
 
 -- A heartbeat derivation of v whose graph meets a bound.
-pub record Bounded (M : FrameMachine) (N : ℕ) (c : M .Code) (v : ℕ) (Meets : CostGraph → Type 0) : Type 0 where
+pub record HeartbeatMeets (M : FrameMachine) (N : ℕ) (c : M .Code) (v : ℕ) (Meets : CostGraph → Type 0) : Type 0 where
   pub graph : CostGraph
   pub derivation : Heartbeat M N (evaluate c) [] 0 v graph
   pub meets : Meets graph
@@ -27,9 +27,9 @@ pub record Bounded (M : FrameMachine) (N : ℕ) (c : M .Code) (v : ℕ) (Meets :
 -- THEOREM 2, the work bound (`work-bound`): work(g_h) ≤ (1 + τ/N) · work(g_s).
 abbrev pub WorkBound : Type 1
 WorkBound = (M : FrameMachine) (N τ : ℕ) (c : M .Code) (v : ℕ) (gs : CostGraph) → 1 ≤ N → 1 ≤ τ → Sequential M (evaluate c) [] v gs
-    → Bounded M N c v (λ gh. N * work-of τ gh ≤ (N + τ) * work-of τ gs)
+    → HeartbeatMeets M N c v (λ gh. N * work-of τ gh ≤ (N + τ) * work-of τ gs)
 
 -- THEOREM 3, the span bound (`span-bound`): span(g_h) ≤ (1 + N/τ) · span(g_p).
 abbrev pub SpanBound : Type 1
 SpanBound = (M : FrameMachine) (N τ : ℕ) (c : M .Code) (v : ℕ) (gp : CostGraph) → 1 ≤ N → 1 ≤ τ → Parallel M (evaluate c) [] v gp
-    → Bounded M N c v (λ gh. τ * span-of τ gh ≤ (N + τ) * span-of τ gp)
+    → HeartbeatMeets M N c v (λ gh. τ * span-of τ gh ≤ (N + τ) * span-of τ gp)

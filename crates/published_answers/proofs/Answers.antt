@@ -20,7 +20,7 @@ use Rattle.language.specs.declared.Answer.{Answer}
 use Rattle.language.specs.declared.Answer.the-variants.{Value, Stopped, Refused}
 use Rattle.language.specs.Language.{language}
 use Rattle.language.specs.Checks.{framesIn, checkedOf}
-use Rattle.language.specs.Answers.{entry, countsOf, stopped, toldBy, afterCheck, runOf, answerOf}
+use Rattle.language.specs.Answers.{entryCode, countsOf, stopped, toldBy, afterCheck, runOf, answerOf}
 use Rattle.language.proofs.Stops.{stop-of}
 use Rattle.published.specs.CostGraph.{work-of, span-of, fork-count, flat}
 use Rattle.published.specs.Adequacy.{Judgment, Reaches, Told}
@@ -41,9 +41,9 @@ module _ (m : Schedule) (w arguments : List ℕ) (fuel τ workspace : ℕ) where
   J = judged m w arguments
 
   abbrev ran : Result graphs (language w)
-  ran = outcome graphs (language w) fuel (framesIn workspace) m (entry arguments)
+  ran = outcome graphs (language w) fuel (framesIn workspace) m (entryCode arguments)
 
-  counted : {v : ℕ} {g : Graph} {t : machine.Counts} {k : Counts} → Told J fuel (framesIn workspace) v g t
+  counted : {v : ℕ} {g : Graph} {t : machine.RunCounts} {k : Counts} → Told J fuel (framesIn workspace) v g t
       → countsOf (t .transitions) (t .forks) (work τ g) (span τ g) ≡ k → Counted J fuel (framesIn workspace) τ v k
   counted {g = g} {t = t} d e =
       let c = d .reaches .graph in
@@ -56,7 +56,7 @@ module _ (m : Schedule) (w arguments : List ℕ) (fuel τ workspace : ℕ) where
   unfolding toldBy counts-of
   from-run v k (ended (value u) g t) e q =
       let same : u ≡ v = cc in
-      counted (adequate (language w) fuel (framesIn workspace) m (entry arguments) v g t .0 (e ∙ ap (λ x. ended (value x) g t) same))
+      counted (adequate (language w) fuel (framesIn workspace) m (entryCode arguments) v g t .0 (e ∙ ap (λ x. ended (value x) g t) same))
       (ap (counts-of k) q)
   from-run v k (ended (stop i p) g t) e q = let no : _≡_ {A = ℕ} 0 1 = cc in absurd (omega arith)
   from-run v k (ongoing s) e q = let no : _≡_ {A = ℕ} 0 1 = cc in absurd (omega arith)
@@ -65,9 +65,9 @@ module _ (m : Schedule) (w arguments : List ℕ) (fuel τ workspace : ℕ) where
   unfolding toldBy
   to-run v k c =
       let g = c .reaches .graph in
-      let t : machine.Counts = record
+      let t : machine.RunCounts = record
       { transitions = J .transitions (c .reaches .derivation); forks = fork-count g; deepest = J .frames (c .reaches .derivation) } in
-      let e = adequate (language w) fuel (framesIn workspace) m (entry arguments) v (flat g) t .1
+      let e = adequate (language w) fuel (framesIn workspace) m (entryCode arguments) v (flat g) t .1
       (record { reaches = c .reaches; graph-is = refl; transitions-are = refl; forks-are = refl; deepest-is = refl }) in
       ap (toldBy τ) e ∙ rw (work-flat τ g, span-flat τ g, c .counts-are)
 
@@ -75,9 +75,9 @@ module _ (m : Schedule) (w arguments : List ℕ) (fuel τ workspace : ℕ) where
       → Reaches J fuel (framesIn workspace) v → ⊥
   unfolding toldBy
   none-reached s (ended (value u) g t) e q v r = let no : _≡_ {A = ℕ} 0 1 = cc in omega arith
-  none-reached s (ended (stop i p) g t) e q v r = stop-reaches-none (language w) fuel (framesIn workspace) m (entry arguments) i p g t e v r
+  none-reached s (ended (stop i p) g t) e q v r = stop-reaches-none (language w) fuel (framesIn workspace) m (entryCode arguments) i p g t e v r
   none-reached s (ongoing u) e q v r =
-      let a = adequate (language w) fuel (framesIn workspace) m (entry arguments) v (flat (r .graph)) _ .1
+      let a = adequate (language w) fuel (framesIn workspace) m (entryCode arguments) v (flat (r .graph)) _ .1
       (record { reaches = r; graph-is = refl; transitions-are = refl; forks-are = refl; deepest-is = refl }) in
       let no : _≡_ {A = ℕ} 0 1 = cc in
       omega arith
@@ -87,22 +87,22 @@ module _ (m : Schedule) (w arguments : List ℕ) (fuel τ workspace : ℕ) where
   Derives s = stops-judged m w arguments fuel (framesIn workspace) s
 
   abbrev ends-here : Result graphs (language w)
-  ends-here = outcome graphs (language w) fuel (framesIn workspace) m (entry arguments)
+  ends-here = outcome graphs (language w) fuel (framesIn workspace) m (entryCode arguments)
 
-  named : {g : Graph} {t : machine.Counts} (s : Stop) (i : ℕ) (p : Place) → ends-here ≡ ended (stop i p) g t
+  named : {g : Graph} {t : machine.RunCounts} (s : Stop) (i : ℕ) (p : Place) → ends-here ≡ ended (stop i p) g t
       → _≡_ {A = Stop} (record { number = i; function = p .function; node = p .node; transitions = t .transitions }) s → Derives s
   named {g} {t} s i p e q =
       let a : StopsSo ends-here i p (t .transitions) = record { ends = record { cost = g; counts = t; is = e }; transitions-are = refl } in
       let told : StopsSo ends-here (s .number) (placeOf s) (s .transitions)
       = rw (ap (λ x. x .number) q, ap placeOf q, ap (λ x. x .transitions) q) at a in
-      stop-iff-derived (language w) fuel (framesIn workspace) m (entry arguments) (s .number) (placeOf s) (s .transitions) .0 told
+      stop-iff-derived (language w) fuel (framesIn workspace) m (entryCode arguments) (s .number) (placeOf s) (s .transitions) .0 told
 
   stop-from-run : (s : Stop) (o : Result graphs (language w)) → ends-here ≡ o → toldBy τ o ≡ Stopped s → Derives s
   unfolding toldBy stop-of
   stop-from-run s (ended (value u) g t) e q = let no : _≡_ {A = ℕ} 0 1 = cc in absurd (omega arith)
   stop-from-run s (ended (stop i p) g t) e q = named s i p e (ap (stop-of s) q)
   stop-from-run s (ongoing u) e q =
-      let z = finishes graphs (language w) fuel (framesIn workspace) m (entry arguments) in
+      let z = finishes graphs (language w) fuel (framesIn workspace) m (entryCode arguments) in
       let k = z .1 .is in
       let no : _≡_ {A = ℕ} 0 1 = cc in
       absurd (omega arith)
@@ -110,7 +110,7 @@ module _ (m : Schedule) (w arguments : List ℕ) (fuel τ workspace : ℕ) where
   stop-to-run : (s : Stop) → Derives s → toldBy τ ends-here ≡ Stopped s
   unfolding toldBy
   stop-to-run s d =
-      let a = stop-iff-derived (language w) fuel (framesIn workspace) m (entry arguments) (s .number) (placeOf s) (s .transitions) .1 d in
+      let a = stop-iff-derived (language w) fuel (framesIn workspace) m (entryCode arguments) (s .number) (placeOf s) (s .transitions) .1 d in
       ap (toldBy τ) (a .ends .is) ∙ ap (stopped (s .number) (placeOf s)) (a .transitions-are)
 
 module _ (m : Schedule) (w arguments : List ℕ) (fuel N τ workspace : ℕ) where

@@ -16,14 +16,14 @@ use Rattle.language.specs.declared.Answer.{Answer}
 use Rattle.language.specs.declared.Answer.the-variants.{Value, Stopped}
 use Rattle.language.specs.Language.{language}
 use Rattle.language.specs.Checks.{framesIn, checkedOf}
-use Rattle.language.specs.Answers.{entry, countsOf, sequentialOf, parallelOf, heartbeatOf}
+use Rattle.language.specs.Answers.{entryCode, countsOf, sequentialOf, parallelOf, heartbeatOf}
 use Rattle.published.specs.CostGraph.{work-of, span-of, fork-count}
 use Rattle.published.specs.Adequacy.{Judgment, published, Reaches}
 use Rattle.published.specs.StopTheorems.{stops}
 
 -- The judgment of a schedule at a table's entry: Figure 4, 5 or 6.
 abbrev pub judged : Schedule → List ℕ → List ℕ → Judgment
-judged m w arguments = published (language w) m (entry arguments)
+judged m w arguments = published (language w) m (entryCode arguments)
 
 -- v is derived within the limits, and k counts that derivation: its transitions, and the forks, work and span of its graph (Figure 1).
 pub record Counted (J : Judgment) (fuel frames τ v : ℕ) (k : Counts) : Type 0 where
@@ -36,7 +36,7 @@ abbrev pub placeOf : Stop → Place
 placeOf s = record { function = s .function; node = s .node }
 
 abbrev pub stops-judged : Schedule → List ℕ → List ℕ → (fuel frames : ℕ) → Stop → Type 0
-stops-judged m w arguments fuel frames s = stops (language w) m (entry arguments) fuel frames (s .number) (placeOf s) (s .transitions)
+stops-judged m w arguments fuel frames s = stops (language w) m (entryCode arguments) fuel frames (s .number) (placeOf s) (s .transitions)
 
 -- An answer r is that of a schedule's judgment.
 pub record Published (m : Schedule) (w arguments : List ℕ) (fuel N τ workspace : ℕ) (r : Answer) : Type 0 where

@@ -16,7 +16,7 @@ use lib.Dec.{leb}
 use borrow.Author.Tests.{leb-true, not-true, not-false, le-leb, lt-leb, eq-eqb, ne-eqb}
 use Rattle.table.specs.declared.Refusal.{Refusal}
 use Rattle.schedule.proofs.Moves.{and-true}
-use Rattle.io.specs.Counts.{Counts as Within}
+use Rattle.io.specs.Counts.{Counts as ByteCount}
 use Rattle.language.specs.declared.Counts.{Counts}
 use Rattle.language.specs.declared.Answer.{Answer}
 use Rattle.language.specs.declared.Answer.the-variants.{Value, Stopped, Refused}
@@ -26,7 +26,7 @@ use Rattle.machine.specs.AllThree.{AllThree}
 use Rattle.report.specs.Input.{countOf, wordsOf, jobOf, complete, whole}
 use Rattle.lines.specs.Lines.{ascii, breadthLine, machineLines, reportLines}
 use Rattle.lines.specs.Buffer.{Wrote}
-use Rattle.report.specs.Report.{noJob, DemandThreeOf, toldOf, wordsReport, wordsLeave, reportOf, leftAfter, WordsReported, Reported}
+use Rattle.report.specs.Report.{noJob, DemandThreeOf, linesOn, wordsReport, wordsLeave, reportOf, leftAfter, WordsReported, Reported}
 use Rattle.lines.proofs.Buffer.{same}
 
 -- what a complete input has
@@ -69,7 +69,7 @@ module _ (w ws out out′ : List ℕ) (r : ℕ) where
       → table ≡ jobOf w .table → arguments ≡ jobOf w .arguments → fuel ≡ jobOf w .fuel → N ≡ jobOf w .period → τ ≡ jobOf w .tau
       → AllThree table arguments fuel N τ ws ws′ answers
       → Wrote out 0 (reportLines (answers .sequential) (answers .parallel) (answers .heartbeat)) out′ r → WordsReported w ws out ws′ out′ r
-  unfolding wordsReport wordsLeave toldOf
+  unfolding wordsReport wordsLeave linesOn
   told ws′ answers table arguments fuel N τ h et ea ef en ep a wrote = record {
     wrote = rw (h, ← et, ← ea, ← ef, ← en, ← ep, ← a .sequential, ← a .parallel, ← a .heartbeat) wrote;
     workspace = rw (h, ← et, ← ea, ← ef, ← en, ← ep, ← a .sequential) (a .workspace);
@@ -79,11 +79,11 @@ module _ (bytes ws out : List ℕ) where
   every : DemandThreeOf (jobOf (wordsOf bytes)) (length ws)
   every = claim _ _ _ _ _ _
 
-  pub cramped : length out < 512 → Reported bytes ws out ws out 0 × Within 0 out
+  pub cramped : length out < 512 → Reported bytes ws out ws out 0 × ByteCount 0 out
   cramped h = (record { number = rw (lt-leb 512 (length out) h); written = rw (lt-leb 512 (length out) h); workspace = rw (lt-leb 512 (length out) h); demand-3 = every }, (omega arith, refl))
 
   pub reported : (ws′ out′ : List ℕ) (r : ℕ) (text : List ℕ) → 512 ≤ length out → text ≡ reportOf bytes (length ws) → ws′ ≡ leftAfter bytes ws
-      → Wrote out 0 text out′ r → Reported bytes ws out ws′ out′ r × Within r out′
+      → Wrote out 0 text out′ r → Reported bytes ws out ws′ out′ r × ByteCount r out′
   reported ws′ out′ r text h is left wrote =
       let end : r ≡ length text = omega (arith, wrote .ends) in
       let room : r ≤ length out′ = omega (arith, wrote .fits, same wrote) in (
@@ -97,12 +97,12 @@ module _ (bytes ws out : List ℕ) where
       )
 
   pub no-words : (out′ : List ℕ) (r : ℕ) → whole bytes ≡ false → 512 ≤ length out → Wrote out 0 noJob out′ r
-      → Reported bytes ws out ws out′ r × Within r out′
+      → Reported bytes ws out ws out′ r × ByteCount r out′
   unfolding reportOf leftAfter
   no-words out′ r w h wrote = reported ws out′ r noJob h (rw w) (rw w) wrote
 
   pub by-words : (ws′ out′ : List ℕ) (r : ℕ) (words : List ℕ) → whole bytes ≡ true → 512 ≤ length out → words ≡ wordsOf bytes
-      → WordsReported words ws out ws′ out′ r → Reported bytes ws out ws′ out′ r × Within r out′
+      → WordsReported words ws out ws′ out′ r → Reported bytes ws out ws′ out′ r × ByteCount r out′
   unfolding reportOf leftAfter
   by-words ws′ out′ r words w h is g =
       reported ws′ out′ r (wordsReport words (length ws)) h (rw (w, is)) (g .workspace ∙ rw (w, is)) (g .wrote)

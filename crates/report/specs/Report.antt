@@ -18,8 +18,8 @@ abbrev pub answerTo : Machine → Job → ℕ → Answer
 answerTo machine job workspace = machine (job .table) (job .arguments) (job .fuel) (job .period) (job .tau) workspace
 
 -- the three answers, told
-unfoldable pub toldOf : Job → ℕ → List ℕ
-toldOf job workspace =
+unfoldable pub linesOn : Job → ℕ → List ℕ
+linesOn job workspace =
     reportLines (answerTo sequentialOf job workspace) (answerTo parallelOf job workspace) (answerTo heartbeatOf job workspace)
 
 -- `refused 1 function 0 node 0`
@@ -28,7 +28,7 @@ noJob = refusalLine (record { number = 1; function = 0; node = 0 })
 
 -- THE REPORT on an input's words, with a workspace of so many words
 unfoldable pub wordsReport : List ℕ → ℕ → List ℕ
-wordsReport w workspace = cond (complete w) (toldOf (jobOf w) workspace) noJob
+wordsReport w workspace = cond (complete w) (linesOn (jobOf w) workspace) noJob
 
 -- and on its bytes
 unfoldable pub reportOf : List ℕ → ℕ → List ℕ

@@ -10,7 +10,7 @@ ghost use mathlib.Core.Path.{_≡_};
 ghost use Prim.Native.Nat.{_+_, _*_, _≤_, _<_};
 ghost use lib.ListN.{length, getD, drop};
 ghost use lib.Seq.{paste};
-ghost use Rattle.io.specs.Counts.{Counts as Within};
+ghost use Rattle.io.specs.Counts.{Counts as ByteCount};
 ghost use Rattle.report.specs.Input.{wordOf, wordsOf, pairsOf, orHouse, jobOf, complete};
 ghost use Rattle.lines.specs.Buffer.{Wrote};
 ghost use Rattle.report.specs.Report.{noJob, WordsReported, Reported};
@@ -155,7 +155,7 @@ fn report_words(words: &[u32], workspace: &mut [u64], out: &mut [u8]) -> usize
 // Writes the report on an input to the front of `out`, and answers how many bytes it has. An `out` of fewer than 512 bytes gets none.
 pub fn report(input: &[u8], workspace: &mut [u64], out: &mut [u8]) -> usize
     ensures told { λ r. ⌜ Reported (now (input .entry)) (now (workspace .entry)) (now (out .entry)) (now (workspace .exit)) (now (out .exit)) r ⌝ }
-    ensures within { λ r. ⌜ Within r (now (out .exit)) ⌝ }
+    ensures within { λ r. ⌜ ByteCount r (now (out .exit)) ⌝ }
 {
     if out.len() < ROOM {
         return 0;

@@ -7,7 +7,7 @@ use lib.Dec.{leb}
 use borrow.Author.Tests.{lt-leb}
 use Rattle.schedule.specs.Algebra.{spans}
 use Rattle.schedule.specs.FrameMachine.{Control, FrameMachine}
-use Rattle.schedule.specs.Machine.{Stack, promotable, Counts, State, state, Result, ongoing, Schedule, sequential, parallel, heartbeat, promoted-at-birth, promotion-due, after-promotion, move, step, start}
+use Rattle.schedule.specs.Machine.{Stack, promotable, RunCounts, State, state, Result, ongoing, Schedule, sequential, parallel, heartbeat, promoted-at-birth, promotion-due, after-promotion, move, step, start}
 use Rattle.schedule.specs.Bounds.{total, returning, step-by, Flags, measure, measure-of, kept-spans, BoundedState, Advances}
 use Rattle.schedule.proofs.Moves.{and-true, due-promotable, Move, goes-on, opens, closes, keeps-frame, forks, turns, joins, forks-freely, turns-freely, joins-freely, View, is-value, is-halt, is-step, Step, moves-on, promotes, move-view, step-view}
 use Rattle.schedule.proofs.Stacks.{total-promote}
@@ -43,7 +43,7 @@ module _ (τ : ℕ) (M : FrameMachine) (fuel frames : ℕ) where
     bounded-move turns-freely f b = omega arith
     bounded-move joins-freely f b = omega arith
 
-    bounded-promotion : (c : Control (M .Code)) (S : Stack (spans τ) M) (n g : ℕ) (t : Counts) → promotable S ≡ true
+    bounded-promotion : (c : Control (M .Code)) (S : Stack (spans τ) M) (n g : ℕ) (t : RunCounts) → promotable S ≡ true
         → Falling (spans τ) M fuel frames (state c S n g t) (after-promotion (spans τ) M c S n g t)
         → Sound (state c S n g t) → Sound (after-promotion (spans τ) M c S n g t)
     unfolding BoundedState Fits measure-of kept-spans
@@ -52,7 +52,7 @@ module _ (τ : ℕ) (M : FrameMachine) (fuel frames : ℕ) where
     move-advances : {born : Bool} {s u : Numbers} → Move (spans τ) M fuel frames born s u → Sound s → Sound u × (left u < left s)
     move-advances mv b = let f = move-falls (spans τ) M fuel frames mv (fits _ b) in (bounded-move mv f b, f .1)
 
-    promotion-advances : (c : Control (M .Code)) (S : Stack (spans τ) M) (n g : ℕ) (t : Counts) → promotable S ≡ true
+    promotion-advances : (c : Control (M .Code)) (S : Stack (spans τ) M) (n g : ℕ) (t : RunCounts) → promotable S ≡ true
         → Sound (state c S n g t)
         → Sound (after-promotion (spans τ) M c S n g t) × (left (after-promotion (spans τ) M c S n g t) < left (state c S n g t))
     promotion-advances c S n g t able b =

@@ -6,10 +6,10 @@ use native.Mathlib.Omega.{arith}
 use Rattle.schedule.specs.Graph.{Graph, work, span}
 use Rattle.schedule.specs.Algebra.{graphs}
 use Rattle.schedule.specs.FrameMachine.{FrameMachine}
-use Rattle.schedule.specs.Machine.{promotable, value, Counts, sequential, parallel, heartbeat, promoted-at-birth, start}
+use Rattle.schedule.specs.Machine.{promotable, value, RunCounts, sequential, parallel, heartbeat, promoted-at-birth, start}
 use Rattle.schedule.specs.Runs.{moves, outcome, EndsIn}
 use Rattle.schedule.specs.Lockstep.{spared}
-use Rattle.schedule.specs.Demand.{DemandThree}
+use Rattle.schedule.specs.Demand.{DemandOfEveryRun}
 use Rattle.schedule.proofs.Moves.{way}
 use Rattle.schedule.proofs.Stacks.{Layered}
 use Rattle.schedule.proofs.ToCome.{Rest, rest, to-come}
@@ -32,7 +32,7 @@ work-bounded N τ transitions forks h =
       add-mul N τ transitions,
     )
 
-module _ (M : FrameMachine) (fuel frames N τ : ℕ) (c : M .Code) (v : ℕ) (g : Graph) (t : Counts)
+module _ (M : FrameMachine) (fuel frames N τ : ℕ) (c : M .Code) (v : ℕ) (g : Graph) (t : RunCounts)
     (r : Rest graphs M fuel frames (value v) g t (start graphs M c)) where
   -- The span that the sequential run foretells for the parallel one.
   abbrev whole : ℕ
@@ -48,7 +48,7 @@ module _ (M : FrameMachine) (fuel frames N τ : ℕ) (c : M .Code) (v : ℕ) (g 
       (a .0, omega arith)
 
   -- What is known of the heartbeat run.
-  record OnTime (g' : Graph) (t' : Counts) : Type 0 where
+  record OnTime (g' : Graph) (t' : RunCounts) : Type 0 where
     spares : t' .transitions + 2 * t' .forks ≡ t .transitions
     paid : N * t' .forks ≤ t' .transitions
     bounded : τ * span τ g' ≤ (N + τ) * whole
@@ -67,14 +67,14 @@ module _ (M : FrameMachine) (fuel frames N τ : ℕ) (c : M .Code) (v : ℕ) (g 
       let q = last .1 .below in
       (a .0, record { spares = last .2; paid = omega arith; bounded = omega arith })
 
-pub demand-3 : DemandThree
+pub demand-3 : DemandOfEveryRun
 unfolding outcome
 demand-3 M fuel frames N τ c v g t N-positive τ-positive e =
     let w = way graphs M fuel frames sequential (moves fuel frames) (start graphs M c) (value v) g t e in
     let r = rest graphs M fuel frames (value v) g t (λ p i. let no : _≡_ {A = ℕ} 0 1 = cc in omega arith) w in
     let p = by-parallel M fuel frames N τ c v g t r in
     let h = by-heartbeat M fuel frames N τ c v g t r N-positive τ-positive in
-    let counts : Counts = h .0 .counts in
+    let counts : RunCounts = h .0 .counts in
     let done = work-counted M fuel frames τ (heartbeat N) c v (h .0 .cost) counts (h .0 .is) in
     let chain = sequential-chain M fuel frames τ c (value v) g t e in
     let same : work τ g ≡ counts .transitions + 2 * counts .forks = omega (arith, h .1 .spares, chain .work-is) in

@@ -10,7 +10,7 @@ use Rattle.schedule.specs.Algebra.{graphs}
 use Rattle.schedule.specs.FrameMachine.{Place, return, Next, go-on, open-fork, fail, FrameMachine}
 use Rattle.schedule.specs.Machine.{promotable, promote, value, stop, Result, ended, ongoing, Schedule, sequential, parallel, heartbeat, promoted-at-birth, promotion-due, with-fuel, with-frame, evaluated, arrived, move, step, start}
 use Rattle.schedule.specs.Runs.{and-then, run, outcome}
-use Rattle.schedule.specs.Demand.{Demand3}
+use Rattle.schedule.specs.Demand.{DemandOfRuns}
 use Rattle.schedule.proofs.Demand.{demand-3}
 
 -- Each node with its position.
@@ -84,6 +84,6 @@ chain : ℕ → Graph
 chain zero = empty
 chain (suc n) = transition (chain n)
 
-met : Demand3 language 100 256 3 2 table-A 4 (chain 11)
+met : DemandOfRuns language 100 256 3 2 table-A 4 (chain 11)
 unfolding table-A at node-of next-of chain outcome run and-then step start move evaluated arrived with-fuel with-frame promotable promote promoted-at-birth promotion-due
 met = demand-3 language 100 256 3 2 table-A 4 (chain 11) (record { transitions = 11; forks = 0; deepest = 2 }) (omega arith) (omega arith) refl

@@ -6,7 +6,7 @@ use native.Mathlib.Omega.{arith}
 use lib.ListN.{length}
 use Rattle.schedule.specs.Algebra.{CostAlgebra}
 use Rattle.schedule.specs.FrameMachine.{Control, evaluate, return, FrameMachine}
-use Rattle.schedule.specs.Machine.{Stack, promotable, Ending, Counts, State, state, Result, Schedule, promoted-at-birth, after-promotion, step, start}
+use Rattle.schedule.specs.Machine.{Stack, promotable, Ending, RunCounts, State, state, Result, Schedule, promoted-at-birth, after-promotion, step, start}
 use Rattle.schedule.specs.Runs.{run, moves, outcome, EndsIn, NeverUnfinished}
 use Rattle.schedule.specs.Bounds.{total, plain-lefts, returning, measure, measure-of}
 use Rattle.schedule.proofs.Moves.{due-promotable, Move, goes-on, opens, closes, keeps-frame, forks, turns, joins, forks-freely, turns-freely, joins-freely, View, is-value, is-halt, is-step, Step, moves-on, promotes, step-view}
@@ -40,7 +40,7 @@ module _ (K : CostAlgebra) (M : FrameMachine) (fuel frames : ℕ) where
   move-falls turns-freely i = omega arith
   move-falls joins-freely i = omega arith
 
-  pub promotion-falls : (c : Control (M .Code)) (S : Stack K M) (n : ℕ) (g : K .Cost) (t : Counts) → promotable S ≡ true
+  pub promotion-falls : (c : Control (M .Code)) (S : Stack K M) (n : ℕ) (g : K .Cost) (t : RunCounts) → promotable S ≡ true
       → Fits (state c S n g t) → Falling (state c S n g t) (after-promotion K M c S n g t)
   unfolding Fits measure-of measure plain-lefts
   promotion-falls c S n g t able i =

@@ -9,7 +9,7 @@ use borrow.Author.Tests.{leb-true, leb-false}
 use Rattle.schedule.specs.Graph.{Graph, span}
 use Rattle.schedule.specs.Algebra.{CostAlgebra, graphs}
 use Rattle.schedule.specs.FrameMachine.{Control, FrameMachine}
-use Rattle.schedule.specs.Machine.{Stack, promotable, Counts, State, state, heartbeat, promoted-at-birth, promotion-due, after-promotion, after-join}
+use Rattle.schedule.specs.Machine.{Stack, promotable, RunCounts, State, state, heartbeat, promoted-at-birth, promotion-due, after-promotion, after-join}
 use Rattle.schedule.proofs.Moves.{and-true, and-false, Move, goes-on, opens, closes, keeps-frame, forks, turns, joins, turns-freely, joins-freely, Step, moves-on, promotes}
 use Rattle.schedule.proofs.Stacks.{Layered, layered-promote}
 use Rattle.schedule.proofs.ToCome.{ToCome, before, before-step}
@@ -36,7 +36,7 @@ module _ (K : CostAlgebra) (M : FrameMachine) (fuel frames : ℕ) where
   layered-move turns-freely i = i
   layered-move joins-freely i = i .1
 
-  pub layered-promoted : (c : Control (M .Code)) (S : Stack K M) (n : ℕ) (g : K .Cost) (t : Counts) → promotable S ≡ true
+  pub layered-promoted : (c : Control (M .Code)) (S : Stack K M) (n : ℕ) (g : K .Cost) (t : RunCounts) → promotable S ≡ true
       → LayeredState K M (state c S n g t) → LayeredState K M (after-promotion K M c S n g t)
   unfolding LayeredState
   layered-promoted c S n g t able i = layered-promote g S able i
@@ -53,7 +53,7 @@ module _ (K : CostAlgebra) (M : FrameMachine) (fuel frames : ℕ) where
   paid-move N turns-freely i = omega arith
   paid-move N joins-freely i = omega arith
 
-  pub paid-promotion : (N : ℕ) (c : Control (M .Code)) (S : Stack K M) (n : ℕ) (g : K .Cost) (t : Counts) → N ≤ n
+  pub paid-promotion : (N : ℕ) (c : Control (M .Code)) (S : Stack K M) (n : ℕ) (g : K .Cost) (t : RunCounts) → N ≤ n
       → Paid K M N (state c S n g t) → Paid K M N (after-promotion K M c S n g t)
   unfolding Paid
   paid-promotion N c S n g t h i = omega (arith, mul-suc N (t .forks))
@@ -97,7 +97,7 @@ module _ (M : FrameMachine) (fuel frames τ G : ℕ) (τ-positive : 1 ≤ τ) wh
       Ψ-free-join τ G τ-positive (hand n) (hand' 0) (y .here) w g k i j b S (y .ahead) (o .0) (omega arith)
 
   -- Nor does a promotion, with at most G in hand.
-  pub promotion-pays : (hand hand' : ℕ → ℕ) (c : Control (M .Code)) (S : Stack graphs M) (n : ℕ) (g : Graph) (t : Counts) (y : ToCome)
+  pub promotion-pays : (hand hand' : ℕ → ℕ) (c : Control (M .Code)) (S : Stack graphs M) (n : ℕ) (g : Graph) (t : RunCounts) (y : ToCome)
       → promotable S ≡ true → hand n ≤ G
       → potential M τ G hand' (after-promotion graphs M c S n g t) y ≤ potential M τ G hand (state c S n g t) y
   unfolding potential

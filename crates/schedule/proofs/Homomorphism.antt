@@ -9,7 +9,7 @@ use lib.ListN.{length}
 use Rattle.schedule.specs.Graph.{Graph, empty, transition, fork, span}
 use Rattle.schedule.specs.Algebra.{CostAlgebra, graphs, spans, Homomorphism}
 use Rattle.schedule.specs.FrameMachine.{Place, Control, evaluate, return, Next, go-on, open-frame, open-fork, stuck, Arrival, close, keep, fail, FrameMachine}
-use Rattle.schedule.specs.Machine.{Slot, ordinary, plain-left, plain-right, promoted-left, promoted-right, Stack, promotable, promote, Ending, stop, Counts, split, deeper, State, state, Outcome, Result, ended, ongoing, Schedule, promoted-at-birth, promotion-due, after-transition, after-promotion, after-fork, with-fuel, with-frame, evaluated, arrived, move, step, start}
+use Rattle.schedule.specs.Machine.{Slot, ordinary, plain-left, plain-right, promoted-left, promoted-right, Stack, promotable, promote, Ending, stop, RunCounts, split, deeper, State, state, Outcome, Result, ended, ongoing, Schedule, promoted-at-birth, promotion-due, after-transition, after-promotion, after-fork, with-fuel, with-frame, evaluated, arrived, move, step, start}
 use Rattle.schedule.specs.Runs.{and-then, run, moves, outcome}
 use Rattle.schedule.specs.Homomorphism.{map-slot, map-stack, map-state, map-outcome, fold, RunsCarried, SpanCarried}
 
@@ -66,28 +66,28 @@ module _ (K L : CostAlgebra) (M : FrameMachine) (h : K .Cost → L .Cost) (e : H
   cond-map true a b = refl
   cond-map false a b = refl
 
-  fuel-map : (p : Place) (g : K .Cost) (t : Counts) (o : O)
+  fuel-map : (p : Place) (g : K .Cost) (t : RunCounts) (o : O)
       → with-fuel L M fuel frames p (h g) t (mapped o) ≡ mapped (with-fuel K M fuel frames p g t o)
   unfolding with-fuel map-outcome
   fuel-map p g t o = cond-map (ltb (t .transitions) fuel) o (ended (stop 20 p) g t)
 
-  frame-map : (S : Stack K M) (p : Place) (g : K .Cost) (t : Counts) (o : O)
+  frame-map : (S : Stack K M) (p : Place) (g : K .Cost) (t : RunCounts) (o : O)
       → with-frame L M fuel frames (map-stack h S) p (h g) t (mapped o) ≡ mapped (with-frame K M fuel frames S p g t o)
   unfolding with-frame map-outcome
   frame-map S p g t o = rw (length-map h S) (cond-map (ltb (length S) frames) o (ended (stop 21 p) g t))
 
   -- A transition that needs only fuel, and one that also needs a frame.
-  transition-map : (p : Place) (c : Control (M .Code)) (S : Stack K M) (n : ℕ) (g : K .Cost) (t : Counts)
+  transition-map : (p : Place) (c : Control (M .Code)) (S : Stack K M) (n : ℕ) (g : K .Cost) (t : RunCounts)
       → with-fuel L M fuel frames p (h g) t (ongoing (after-transition L M c (map-stack h S) n (h g) t))
       ≡ mapped (with-fuel K M fuel frames p g t (ongoing (after-transition K M c S n g t)))
   unfolding map-outcome map-state
   transition-map p c S n g t = rw (← e .on-transition g) (fuel-map p g t (ongoing (after-transition K M c S n g t)))
 
   -- The state after a frame was opened.
-  abbrev after-opening : (A : CostAlgebra) → Slot (A .Cost) (M .Frame) (M .Fork) → M .Code → Stack A M → ℕ → A .Cost → Counts → State A M
+  abbrev after-opening : (A : CostAlgebra) → Slot (A .Cost) (M .Frame) (M .Fork) → M .Code → Stack A M → ℕ → A .Cost → RunCounts → State A M
   after-opening A f d S n g t = after-transition A M (evaluate d) (f ∷ S) n g (deeper (length S + 1) t)
 
-  opening-map : (p : Place) (f : Slot (K .Cost) (M .Frame) (M .Fork)) (d : M .Code) (S : Stack K M) (n : ℕ) (g : K .Cost) (t : Counts)
+  opening-map : (p : Place) (f : Slot (K .Cost) (M .Frame) (M .Fork)) (d : M .Code) (S : Stack K M) (n : ℕ) (g : K .Cost) (t : RunCounts)
       → with-fuel L M fuel frames p (h g) t
       (with-frame L M fuel frames (map-stack h S) p (h g) t (ongoing (after-opening L (map-slot h f) d (map-stack h S) n (h g) t)))
       ≡ mapped (with-fuel K M fuel frames p g t (with-frame K M fuel frames S p g t (ongoing (after-opening K f d S n g t))))
@@ -97,7 +97,7 @@ module _ (K L : CostAlgebra) (M : FrameMachine) (h : K .Cost → L .Cost) (e : H
       rw (← e .on-transition g, length-map h S)
       (ap (with-fuel L M fuel frames p (h g) t) (frame-map S p g t o) ∙ fuel-map p g t (with-frame K M fuel frames S p g t o))
 
-  evaluated-map : (born : Bool) (p : Place) (o : Next (M .Code) (M .Frame) (M .Fork)) (S : Stack K M) (n : ℕ) (g : K .Cost) (t : Counts)
+  evaluated-map : (born : Bool) (p : Place) (o : Next (M .Code) (M .Frame) (M .Fork)) (S : Stack K M) (n : ℕ) (g : K .Cost) (t : RunCounts)
       → evaluated L M fuel frames born p o (map-stack h S) n (h g) t ≡ mapped (evaluated K M fuel frames born p o S n g t)
   unfolding evaluated map-outcome map-state map-stack
   evaluated-map born p (go-on c) S n g t = transition-map p c S n g t
@@ -111,14 +111,14 @@ module _ (K L : CostAlgebra) (M : FrameMachine) (h : K .Cost → L .Cost) (e : H
   evaluated-map false p (open-fork b d) S n g t = opening-map p (plain-left b) d S n g t
   evaluated-map born p (stuck i) S n g t = fuel-map p g t (ended (stop i p) g t)
 
-  arrived-map : (p : Place) (o : Arrival (M .Code) (M .Frame)) (S : Stack K M) (n : ℕ) (g : K .Cost) (t : Counts)
+  arrived-map : (p : Place) (o : Arrival (M .Code) (M .Frame)) (S : Stack K M) (n : ℕ) (g : K .Cost) (t : RunCounts)
       → arrived L M fuel frames p o (map-stack h S) n (h g) t ≡ mapped (arrived K M fuel frames p o S n g t)
   unfolding arrived map-outcome map-state map-stack
   arrived-map p (close c) S n g t = transition-map p c S n g t
   arrived-map p (keep f d) S n g t = transition-map p (evaluate d) (ordinary f ∷ S) n g t
   arrived-map p (fail i) S n g t = fuel-map p g t (ended (stop i p) g t)
 
-  pub move-map : (born : Bool) (c : Control (M .Code)) (S : Stack K M) (n : ℕ) (g : K .Cost) (t : Counts)
+  pub move-map : (born : Bool) (c : Control (M .Code)) (S : Stack K M) (n : ℕ) (g : K .Cost) (t : RunCounts)
       → move L M fuel frames born (state c (map-stack h S) n (h g) t) ≡ mapped (move K M fuel frames born (state c S n g t))
   unfolding move map-outcome map-state map-stack
   move-map born (evaluate c) S n g t = evaluated-map born (M .code-place c) (M .next c) S n g t
@@ -152,12 +152,12 @@ runs-carried K L h e M fuel frames m c =
 -- The run that keeps another cost ends as the run over graphs does, and only so.
 module _ (K : CostAlgebra) (h : Graph → K .Cost) (e : Homomorphism graphs K h) (M : FrameMachine) (fuel frames : ℕ) (m : Schedule)
     (c : M .Code) where
-  pub cost-ends : (z : Ending) (g : Graph) (t : Counts) → outcome graphs M fuel frames m c ≡ ended z g t
+  pub cost-ends : (z : Ending) (g : Graph) (t : RunCounts) → outcome graphs M fuel frames m c ≡ ended z g t
       → outcome K M fuel frames m c ≡ ended z (h g) t
   unfolding map-outcome
   cost-ends z g t i = runs-carried graphs K h e M fuel frames m c ∙ rw i
 
-  pub ends-cost : (z : Ending) (a : K .Cost) (t : Counts) → outcome K M fuel frames m c ≡ ended z a t
+  pub ends-cost : (z : Ending) (a : K .Cost) (t : RunCounts) → outcome K M fuel frames m c ≡ ended z a t
       → (g : Graph) × (outcome graphs M fuel frames m c ≡ ended z g t) × (a ≡ h g)
   unfolding map-outcome
   ends-cost z a t i = on (outcome graphs M fuel frames m c) (sym (runs-carried graphs K h e M fuel frames m c) ∙ i)

@@ -7,7 +7,7 @@ use mathlib.Core.List.{List, [], _∷_}
 use native.Mathlib.Omega.{arith}
 use Rattle.schedule.specs.Algebra.{CostAlgebra}
 use Rattle.schedule.specs.FrameMachine.{Place, Control, evaluate, return, FrameMachine}
-use Rattle.schedule.specs.Machine.{Slot, ordinary, plain-left, plain-right, promoted-left, promoted-right, Stack, promotable, promote, Ending, value, Counts, split, State, state, ended, Schedule, sequential, promoted-at-birth, promotion-due, after-promotion, move, step, start}
+use Rattle.schedule.specs.Machine.{Slot, ordinary, plain-left, plain-right, promoted-left, promoted-right, Stack, promotable, promote, Ending, value, RunCounts, split, State, state, ended, Schedule, sequential, promoted-at-birth, promotion-due, after-promotion, move, step, start}
 use Rattle.schedule.specs.Runs.{moves, outcome, EndsIn}
 use Rattle.schedule.specs.Bounds.{total}
 use Rattle.schedule.specs.Lockstep.{spared, Lockstep}
@@ -27,12 +27,12 @@ arrivals (promoted-right g l b v) = 1
 
 -- The counts t of a state with stack S, beside those of the sequential run at the same moment: at most as many transitions, the same depth; and
 -- of the transitions that its forks spare all are saved but those of the arrivals still to come.
-pub record Against {Cost Frame Fork : Type 0} (born : Bool) (S : List (Slot Cost Frame Fork)) (t counts : Counts) : Type 0 where
+pub record Against {Cost Frame Fork : Type 0} (born : Bool) (S : List (Slot Cost Frame Fork)) (t counts : RunCounts) : Type 0 where
   pub fewer : t .transitions ≤ counts .transitions
   pub depth : t .deepest ≡ counts .deepest
   pub spares : t .transitions + spared born * t .forks ≡ counts .transitions + total arrivals S
 
-module _ (K : CostAlgebra) (M : FrameMachine) (fuel frames : ℕ) (z : Ending) (g' : K .Cost) (t' : Counts) where
+module _ (K : CostAlgebra) (M : FrameMachine) (fuel frames : ℕ) (z : Ending) (g' : K .Cost) (t' : RunCounts) where
   abbrev RestAt : State K M → Type 0
   RestAt s = Rest K M fuel frames z g' t' s
 
@@ -40,15 +40,15 @@ module _ (K : CostAlgebra) (M : FrameMachine) (fuel frames : ℕ) (z : Ending) (
   coming τ r = to-come K M fuel frames z g' t' τ r
 
   -- THE SEQUENTIAL RUN BESIDE a state: the same control, and the same stack with no marks.
-  pub record Beside (born : Bool) (c : Control (M .Code)) (S : Stack K M) (t : Counts) : Type 0 where
+  pub record Beside (born : Bool) (c : Control (M .Code)) (S : Stack K M) (t : RunCounts) : Type 0 where
     pub credits : ℕ
     pub cost : K .Cost
-    pub counts : Counts
+    pub counts : RunCounts
     pub run : Rest K M fuel frames z g' t' (state c (erase S) credits cost counts)
     pub against : Against born S t counts
 
   -- An end that is the sequential one, where P holds at a value.
-  pub record Alike (born : Bool) (P : State K M → ToCome → Type 0) (e : Ending) (g : K .Cost) (t : Counts) : Type 0 where
+  pub record Alike (born : Bool) (P : State K M → ToCome → Type 0) (e : Ending) (g : K .Cost) (t : RunCounts) : Type 0 where
     pub same : e ≡ z
     pub fewer : t .transitions ≤ t' .transitions
     pub depth : t .deepest ≡ t' .deepest
@@ -69,18 +69,18 @@ module _ (K : CostAlgebra) (M : FrameMachine) (fuel frames : ℕ) (z : Ending) (
     Turns born s = (u : State K M) (mv : Move K M fuel frames born s u) (y : ToCome) → P s (before K M fuel frames τ mv y) → Q u y
 
     -- A move here, with the sequential run after it.
-    goes : (born : Bool) {s : State K M} {c : Control (M .Code)} {S : Stack K M} {n : ℕ} {g : K .Cost} {t : Counts} → Turns born s
-        → (mv : Move K M fuel frames born s (state c S n g t)) {credits : ℕ} {cost : K .Cost} {counts : Counts}
+    goes : (born : Bool) {s : State K M} {c : Control (M .Code)} {S : Stack K M} {n : ℕ} {g : K .Cost} {t : RunCounts} → Turns born s
+        → (mv : Move K M fuel frames born s (state c S n g t)) {credits : ℕ} {cost : K .Cost} {counts : RunCounts}
         → (r : RestAt (state c (erase S) credits cost counts)) → Against born S t counts
         → P s (before K M fuel frames τ mv (coming τ r)) → Paced born s
     unfolding Kept
     goes born kept mv r a p =
         rw (move-is K M fuel frames mv) (record { credits = _; cost = _; counts = _; run = r; against = a }, kept _ mv (coming τ r) p)
 
-    module _ (n : ℕ) (g : K .Cost) (t : Counts) where
+    module _ (n : ℕ) (g : K .Cost) (t : RunCounts) where
       -- A move of the sequential run is one here.
       follow : (born : Bool) (c : Control (M .Code)) (S : Stack K M) → Turns born (state c S n g t)
-          → {credits : ℕ} {cost : K .Cost} {counts : Counts} {u : State K M}
+          → {credits : ℕ} {cost : K .Cost} {counts : RunCounts} {u : State K M}
           → (mv : Move K M fuel frames false (state c (erase S) credits cost counts) u) (r : RestAt u)
           → Against born S t counts → P (state c S n g t) (before K M fuel frames τ mv (coming τ r)) → Paced born (state c S n g t)
       unfolding erase erased before total arrivals spared
@@ -100,7 +100,7 @@ module _ (K : CostAlgebra) (M : FrameMachine) (fuel frames : ℕ) (z : Ending) (
 
       module _ (born : Bool) where
         -- A stop of the sequential run is one here.
-        stuck-here : (c : Control (M .Code)) (S : Stack K M) {credits i : ℕ} {cost : K .Cost} {counts : Counts} {p : Place}
+        stuck-here : (c : Control (M .Code)) (S : Stack K M) {credits i : ℕ} {cost : K .Cost} {counts : RunCounts} {p : Place}
             → Against born S t counts → Stuck K M fuel frames false (state c (erase S) credits cost counts) i p
             → Stuck K M fuel frames born (state c S n g t) i p
         unfolding erase erased
@@ -128,7 +128,7 @@ module _ (K : CostAlgebra) (M : FrameMachine) (fuel frames : ℕ) (z : Ending) (
         unfolding to-come Kept
         pace-move c S kept i = on (i .0 .run) (i .0 .against) (i .1)
           where
-            on : {credits : ℕ} {cost : K .Cost} {counts : Counts} (r : RestAt (state c (erase S) credits cost counts))
+            on : {credits : ℕ} {cost : K .Cost} {counts : RunCounts} (r : RestAt (state c (erase S) credits cost counts))
                 → Against born S t counts → P (state c S n g t) (coming τ r) → Paced born (state c S n g t)
             on (at-value {v = v} ec es ez) a p =
                 let empty : S ≡ [] = erase-empty S es in
@@ -161,7 +161,7 @@ module _ (K : CostAlgebra) (M : FrameMachine) (fuel frames : ℕ) (z : Ending) (
     abbrev Inv : State K M → Type 0
     Inv s = InStep (promoted-at-birth m) τ P s
 
-    abbrev Fin : Ending → K .Cost → Counts → Type 0
+    abbrev Fin : Ending → K .Cost → RunCounts → Type 0
     Fin e g t = Alike (promoted-at-birth m) P e g t
 
     pace : (s : State K M) → Inv s → Kept Inv Fin (step K M fuel frames m s)

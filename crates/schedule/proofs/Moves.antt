@@ -10,7 +10,7 @@ use lib.ListN.{length}
 use borrow.Author.Tests.{ltb-true, ltb-false, lt-ltb, le-ltb}
 use Rattle.schedule.specs.Algebra.{CostAlgebra}
 use Rattle.schedule.specs.FrameMachine.{Place, Control, evaluate, return, Next, go-on, open-frame, open-fork, stuck, Arrival, close, keep, fail, FrameMachine}
-use Rattle.schedule.specs.Machine.{ordinary, plain-left, plain-right, promoted-left, promoted-right, Stack, promotable, Ending, value, stop, Counts, deeper, State, state, Result, ended, ongoing, Schedule, sequential, parallel, heartbeat, promoted-at-birth, promotion-due, after-transition, after-promotion, after-fork, after-turn, after-join, with-fuel, with-frame, evaluated, arrived, move, step}
+use Rattle.schedule.specs.Machine.{ordinary, plain-left, plain-right, promoted-left, promoted-right, Stack, promotable, Ending, value, stop, RunCounts, deeper, State, state, Result, ended, ongoing, Schedule, sequential, parallel, heartbeat, promoted-at-birth, promotion-due, after-transition, after-promotion, after-fork, after-turn, after-join, with-fuel, with-frame, evaluated, arrived, move, step}
 use Rattle.schedule.specs.Runs.{and-then, run}
 
 pub and-true : (a b : Bool) → a && b ≡ true → (a ≡ true) × (b ≡ true)
@@ -39,67 +39,67 @@ module _ (K : CostAlgebra) (M : FrameMachine) (fuel frames : ℕ) where
   -- THE MOVES, by whether a fork is promoted at its birth: four transitions that leave forks alone, the three of a plain fork, and the three of
   -- a promoted one, which are free.
   pub data Move : Bool → State K M → State K M → Type 0 where
-    goes-on : {born : Bool} {c : M .Code} {d : Control (M .Code)} {S : Stack K M} {n : ℕ} {g : K .Cost} {t : Counts}
+    goes-on : {born : Bool} {c : M .Code} {d : Control (M .Code)} {S : Stack K M} {n : ℕ} {g : K .Cost} {t : RunCounts}
         → M .next c ≡ go-on d → t .transitions < fuel
         → Move born (state (evaluate c) S n g t) (after-transition K M d S n g t)
-    opens : {born : Bool} {c d : M .Code} {f : M .Frame} {S : Stack K M} {n : ℕ} {g : K .Cost} {t : Counts}
+    opens : {born : Bool} {c d : M .Code} {f : M .Frame} {S : Stack K M} {n : ℕ} {g : K .Cost} {t : RunCounts}
         → M .next c ≡ open-frame f d → t .transitions < fuel → length S < frames
         → Move born (state (evaluate c) S n g t) (after-transition K M (evaluate d) (ordinary f ∷ S) n g (deeper (length S + 1) t))
-    closes : {born : Bool} {f : M .Frame} {v : ℕ} {d : Control (M .Code)} {S : Stack K M} {n : ℕ} {g : K .Cost} {t : Counts}
+    closes : {born : Bool} {f : M .Frame} {v : ℕ} {d : Control (M .Code)} {S : Stack K M} {n : ℕ} {g : K .Cost} {t : RunCounts}
         → M .arrive f v ≡ close d → t .transitions < fuel
         → Move born (state (return v) (ordinary f ∷ S) n g t) (after-transition K M d S n g t)
-    keeps-frame : {born : Bool} {f e : M .Frame} {v : ℕ} {d : M .Code} {S : Stack K M} {n : ℕ} {g : K .Cost} {t : Counts}
+    keeps-frame : {born : Bool} {f e : M .Frame} {v : ℕ} {d : M .Code} {S : Stack K M} {n : ℕ} {g : K .Cost} {t : RunCounts}
         → M .arrive f v ≡ keep e d → t .transitions < fuel
         → Move born (state (return v) (ordinary f ∷ S) n g t) (after-transition K M (evaluate d) (ordinary e ∷ S) n g t)
-    forks : {c d : M .Code} {b : M .Fork} {S : Stack K M} {n : ℕ} {g : K .Cost} {t : Counts}
+    forks : {c d : M .Code} {b : M .Fork} {S : Stack K M} {n : ℕ} {g : K .Cost} {t : RunCounts}
         → M .next c ≡ open-fork b d → t .transitions < fuel → length S < frames
         → Move false (state (evaluate c) S n g t) (after-transition K M (evaluate d) (plain-left b ∷ S) n g (deeper (length S + 1) t))
-    turns : {born : Bool} {b : M .Fork} {v : ℕ} {S : Stack K M} {n : ℕ} {g : K .Cost} {t : Counts}
+    turns : {born : Bool} {b : M .Fork} {v : ℕ} {S : Stack K M} {n : ℕ} {g : K .Cost} {t : RunCounts}
         → t .transitions < fuel
         → Move born (state (return v) (plain-left b ∷ S) n g t) (after-transition K M (evaluate (M .right b)) (plain-right b v ∷ S) n g t)
-    joins : {born : Bool} {b : M .Fork} {v w : ℕ} {S : Stack K M} {n : ℕ} {g : K .Cost} {t : Counts}
+    joins : {born : Bool} {b : M .Fork} {v w : ℕ} {S : Stack K M} {n : ℕ} {g : K .Cost} {t : RunCounts}
         → t .transitions < fuel
         → Move born (state (return v) (plain-right b w ∷ S) n g t) (after-transition K M (evaluate (M .body b w v)) S n g t)
-    forks-freely : {c d : M .Code} {b : M .Fork} {S : Stack K M} {n : ℕ} {g : K .Cost} {t : Counts}
+    forks-freely : {c d : M .Code} {b : M .Fork} {S : Stack K M} {n : ℕ} {g : K .Cost} {t : RunCounts}
         → M .next c ≡ open-fork b d → length S < frames
         → Move true (state (evaluate c) S n g t) (after-fork K M b d S n g t)
-    turns-freely : {born : Bool} {b : M .Fork} {v : ℕ} {h : K .Cost} {S : Stack K M} {n : ℕ} {g : K .Cost} {t : Counts}
+    turns-freely : {born : Bool} {b : M .Fork} {v : ℕ} {h : K .Cost} {S : Stack K M} {n : ℕ} {g : K .Cost} {t : RunCounts}
         → Move born (state (return v) (promoted-left h b ∷ S) n g t) (after-turn K M b v h S n g t)
-    joins-freely : {born : Bool} {b : M .Fork} {v w : ℕ} {h l : K .Cost} {S : Stack K M} {n : ℕ} {g : K .Cost} {t : Counts}
+    joins-freely : {born : Bool} {b : M .Fork} {v w : ℕ} {h l : K .Cost} {S : Stack K M} {n : ℕ} {g : K .Cost} {t : RunCounts}
         → Move born (state (return v) (promoted-right h l b w ∷ S) n g t) (after-join K M b w v h l S n g t)
 
   -- THE STOPS that are not for want of fuel. A fork that is promoted at its birth looks only for its frame.
   pub data Stuck : Bool → State K M → ℕ → Place → Type 0 where
-    at-code : {born : Bool} {c : M .Code} {S : Stack K M} {n i : ℕ} {g : K .Cost} {t : Counts}
+    at-code : {born : Bool} {c : M .Code} {S : Stack K M} {n i : ℕ} {g : K .Cost} {t : RunCounts}
         → M .next c ≡ stuck i → t .transitions < fuel
         → Stuck born (state (evaluate c) S n g t) i (M .code-place c)
-    at-frame : {born : Bool} {f : M .Frame} {v : ℕ} {S : Stack K M} {n i : ℕ} {g : K .Cost} {t : Counts}
+    at-frame : {born : Bool} {f : M .Frame} {v : ℕ} {S : Stack K M} {n i : ℕ} {g : K .Cost} {t : RunCounts}
         → M .arrive f v ≡ fail i → t .transitions < fuel
         → Stuck born (state (return v) (ordinary f ∷ S) n g t) i (M .frame-place f)
-    no-frame : {born : Bool} {c d : M .Code} {f : M .Frame} {S : Stack K M} {n : ℕ} {g : K .Cost} {t : Counts}
+    no-frame : {born : Bool} {c d : M .Code} {f : M .Frame} {S : Stack K M} {n : ℕ} {g : K .Cost} {t : RunCounts}
         → M .next c ≡ open-frame f d → t .transitions < fuel → frames ≤ length S
         → Stuck born (state (evaluate c) S n g t) 21 (M .code-place c)
-    no-fork-frame : {born : Bool} {c d : M .Code} {b : M .Fork} {S : Stack K M} {n : ℕ} {g : K .Cost} {t : Counts}
+    no-fork-frame : {born : Bool} {c d : M .Code} {b : M .Fork} {S : Stack K M} {n : ℕ} {g : K .Cost} {t : RunCounts}
         → M .next c ≡ open-fork b d → (born ≡ false → t .transitions < fuel) → frames ≤ length S
         → Stuck born (state (evaluate c) S n g t) 21 (M .code-place c)
 
   -- Every stop: 20 where the fuel is spent, or one of those.
   pub data Halt (born : Bool) : State K M → ℕ → Place → Type 0 where
-    no-fuel : {c : Control (M .Code)} {S : Stack K M} {n : ℕ} {p : Place} {g : K .Cost} {t : Counts}
+    no-fuel : {c : Control (M .Code)} {S : Stack K M} {n : ℕ} {p : Place} {g : K .Cost} {t : RunCounts}
         → fuel ≤ t .transitions → Halt born (state c S n g t) 20 p
     is-stuck : {s : State K M} {i : ℕ} {p : Place} → Stuck born s i p → Halt born s i p
 
   -- What a step comes to: a value, a stop, or a state that R leads to.
   pub data View (born : Bool) (R : State K M → State K M → Type 0) : State K M → Result K M → Type 0 where
-    is-value : {v n : ℕ} {g : K .Cost} {t : Counts} → View born R (state (return v) [] n g t) (ended (value v) g t)
-    is-halt : {c : Control (M .Code)} {S : Stack K M} {n i : ℕ} {p : Place} {g : K .Cost} {t : Counts}
+    is-value : {v n : ℕ} {g : K .Cost} {t : RunCounts} → View born R (state (return v) [] n g t) (ended (value v) g t)
+    is-halt : {c : Control (M .Code)} {S : Stack K M} {n i : ℕ} {p : Place} {g : K .Cost} {t : RunCounts}
         → Halt born (state c S n g t) i p → View born R (state c S n g t) (ended (stop i p) g t)
     is-step : {s u : State K M} → R s u → View born R s (ongoing u)
 
   abbrev pub MoveView : Bool → State K M → Result K M → Type 0
   MoveView born s o = View born (Move born) s o
 
-  fueled-view : {born : Bool} {c : Control (M .Code)} {S : Stack K M} {n : ℕ} (p : Place) (g : K .Cost) (t : Counts) (o : Result K M)
+  fueled-view : {born : Bool} {c : Control (M .Code)} {S : Stack K M} {n : ℕ} (p : Place) (g : K .Cost) (t : RunCounts) (o : Result K M)
       → (t .transitions < fuel → MoveView born (state c S n g t) o) → MoveView born (state c S n g t) (with-fuel K M fuel frames p g t o)
   unfolding with-fuel
   fueled-view {born} {c} {S} {n} p g t o f = on (ltb (t .transitions) fuel) refl
@@ -108,7 +108,7 @@ module _ (K : CostAlgebra) (M : FrameMachine) (fuel frames : ℕ) where
       on true e = f (ltb-true (t .transitions) fuel e)
       on false e = is-halt (no-fuel (ltb-false (t .transitions) fuel e))
 
-  framed-view : {born : Bool} {s : State K M} (S : Stack K M) (p : Place) (g : K .Cost) (t : Counts) (o : Result K M)
+  framed-view : {born : Bool} {s : State K M} (S : Stack K M) (p : Place) (g : K .Cost) (t : RunCounts) (o : Result K M)
       → (length S < frames → MoveView born s o) → (frames ≤ length S → MoveView born s (ended (stop 21 p) g t))
       → MoveView born s (with-frame K M fuel frames S p g t o)
   unfolding with-frame
@@ -119,7 +119,7 @@ module _ (K : CostAlgebra) (M : FrameMachine) (fuel frames : ℕ) where
       on false e = h (ltb-false (length S) frames e)
 
   evaluated-view : (born : Bool) (c : M .Code) (o : Next (M .Code) (M .Frame) (M .Fork)) → M .next c ≡ o
-      → (S : Stack K M) (n : ℕ) (g : K .Cost) (t : Counts)
+      → (S : Stack K M) (n : ℕ) (g : K .Cost) (t : RunCounts)
       → MoveView born (state (evaluate c) S n g t) (evaluated K M fuel frames born (M .code-place c) o S n g t)
   unfolding evaluated
   evaluated-view born c (go-on d) e S n g t = fueled-view _ g t _ (λ l. is-step (goes-on e l))
@@ -132,7 +132,7 @@ module _ (K : CostAlgebra) (M : FrameMachine) (fuel frames : ℕ) where
   evaluated-view born c (stuck i) e S n g t = fueled-view _ g t _ (λ l. is-halt (is-stuck (at-code e l)))
 
   arrived-view : (born : Bool) (f : M .Frame) (v : ℕ) (o : Arrival (M .Code) (M .Frame)) → M .arrive f v ≡ o
-      → (S : Stack K M) (n : ℕ) (g : K .Cost) (t : Counts)
+      → (S : Stack K M) (n : ℕ) (g : K .Cost) (t : RunCounts)
       → MoveView born (state (return v) (ordinary f ∷ S) n g t) (arrived K M fuel frames (M .frame-place f) o S n g t)
   unfolding arrived
   arrived-view born f v (close d) e S n g t = fueled-view _ g t _ (λ l. is-step (closes e l))
@@ -150,16 +150,16 @@ module _ (K : CostAlgebra) (M : FrameMachine) (fuel frames : ℕ) where
   move-view born (state (return v) (promoted-right h l b w ∷ S) n g t) = is-step joins-freely
 
   -- The other way: where the tests are met, the move and the stop are what `move` computes.
-  fueled : (p : Place) (g : K .Cost) (t : Counts) (o : Result K M) → t .transitions < fuel → with-fuel K M fuel frames p g t o ≡ o
+  fueled : (p : Place) (g : K .Cost) (t : RunCounts) (o : Result K M) → t .transitions < fuel → with-fuel K M fuel frames p g t o ≡ o
   unfolding with-fuel
   fueled p g t o h = rw (lt-ltb (t .transitions) fuel h)
 
-  framed : (S : Stack K M) (p : Place) (g : K .Cost) (t : Counts) (o : Result K M) → length S < frames
+  framed : (S : Stack K M) (p : Place) (g : K .Cost) (t : RunCounts) (o : Result K M) → length S < frames
       → with-frame K M fuel frames S p g t o ≡ o
   unfolding with-frame
   framed S p g t o h = rw (lt-ltb (length S) frames h)
 
-  full : (S : Stack K M) (p : Place) (g : K .Cost) (t : Counts) (o : Result K M) → frames ≤ length S
+  full : (S : Stack K M) (p : Place) (g : K .Cost) (t : RunCounts) (o : Result K M) → frames ≤ length S
       → with-frame K M fuel frames S p g t o ≡ ended (stop 21 p) g t
   unfolding with-frame
   full S p g t o h = rw (le-ltb (length S) frames h)
@@ -177,7 +177,7 @@ module _ (K : CostAlgebra) (M : FrameMachine) (fuel frames : ℕ) where
   move-is turns-freely = refl
   move-is joins-freely = refl
 
-  pub stuck-is : {born : Bool} {c : Control (M .Code)} {S : Stack K M} {n i : ℕ} {p : Place} {g : K .Cost} {t : Counts}
+  pub stuck-is : {born : Bool} {c : Control (M .Code)} {S : Stack K M} {n i : ℕ} {p : Place} {g : K .Cost} {t : RunCounts}
       → Stuck born (state c S n g t) i p → move K M fuel frames born (state c S n g t) ≡ ended (stop i p) g t
   unfolding move evaluated arrived
   stuck-is (at-code {g = g} {t = t} e l) = rw e (fueled _ g t _ l)
@@ -189,12 +189,12 @@ module _ (K : CostAlgebra) (M : FrameMachine) (fuel frames : ℕ) where
   module _ (m : Schedule) where
     -- THE STEPS of a schedule: a promotion where one is due, and a move where none is.
     pub data Step : State K M → State K M → Type 0 where
-      moves-on : {c : Control (M .Code)} {S : Stack K M} {n : ℕ} {g : K .Cost} {t : Counts} {u : State K M}
+      moves-on : {c : Control (M .Code)} {S : Stack K M} {n : ℕ} {g : K .Cost} {t : RunCounts} {u : State K M}
           → promotion-due m n (promotable S) ≡ false → Move (promoted-at-birth m) (state c S n g t) u → Step (state c S n g t) u
-      promotes : {c : Control (M .Code)} {S : Stack K M} {n : ℕ} {g : K .Cost} {t : Counts}
+      promotes : {c : Control (M .Code)} {S : Stack K M} {n : ℕ} {g : K .Cost} {t : RunCounts}
           → promotion-due m n (promotable S) ≡ true → Step (state c S n g t) (after-promotion K M c S n g t)
 
-    quiet-view : {c : Control (M .Code)} {S : Stack K M} {n : ℕ} {g : K .Cost} {t : Counts} {o : Result K M}
+    quiet-view : {c : Control (M .Code)} {S : Stack K M} {n : ℕ} {g : K .Cost} {t : RunCounts} {o : Result K M}
         → promotion-due m n (promotable S) ≡ false → MoveView (promoted-at-birth m) (state c S n g t) o
         → View (promoted-at-birth m) Step (state c S n g t) o
     quiet-view q is-value = is-value
@@ -211,7 +211,7 @@ module _ (K : CostAlgebra) (M : FrameMachine) (fuel frames : ℕ) where
         on true e = is-step (promotes e)
         on false e = quiet-view e (move-view (promoted-at-birth m) (state c S n g t))
 
-    pub quiet-is : (c : Control (M .Code)) (S : Stack K M) (n : ℕ) (g : K .Cost) (t : Counts) → promotion-due m n (promotable S) ≡ false
+    pub quiet-is : (c : Control (M .Code)) (S : Stack K M) (n : ℕ) (g : K .Cost) (t : RunCounts) → promotion-due m n (promotable S) ≡ false
         → step K M fuel frames m (state c S n g t) ≡ move K M fuel frames (promoted-at-birth m) (state c S n g t)
     unfolding step
     quiet-is c S n g t q = rw q
@@ -222,13 +222,13 @@ module _ (K : CostAlgebra) (M : FrameMachine) (fuel frames : ℕ) where
     step-is (promotes h) = rw h
 
     -- THE WAY of a run from a state to its end.
-    pub data Way (z : Ending) (g : K .Cost) (t : Counts) : State K M → Type 0 where
+    pub data Way (z : Ending) (g : K .Cost) (t : RunCounts) : State K M → Type 0 where
       to-value : {v n : ℕ} → z ≡ value v → Way z g t (state (return v) [] n g t)
       to-halt : {c : Control (M .Code)} {S : Stack K M} {n i : ℕ} {p : Place} → z ≡ stop i p
           → Halt (promoted-at-birth m) (state c S n g t) i p → Way z g t (state c S n g t)
       via : {s u : State K M} → Step s u → Way z g t u → Way z g t s
 
-    pub way : (gas : ℕ) (s : State K M) (z : Ending) (g : K .Cost) (t : Counts) → run (step K M fuel frames m) gas s ≡ ended z g t
+    pub way : (gas : ℕ) (s : State K M) (z : Ending) (g : K .Cost) (t : RunCounts) → run (step K M fuel frames m) gas s ≡ ended z g t
         → Way z g t s
     unfolding run and-then
     way zero s z g t e = let no : _≡_ {A = ℕ} 0 1 = cc in absurd (omega arith)
@@ -251,7 +251,7 @@ module _ (K : CostAlgebra) (M : FrameMachine) (fuel frames : ℕ) where
 
     -- What every step keeps holds at the value.
     pub at-value : (Inv : State K M → Type 0) → ((s u : State K M) → Step s u → Inv s → Inv u)
-        → {v : ℕ} {g : K .Cost} {t : Counts} {s : State K M} → Way (value v) g t s → Inv s → (n : ℕ) × Inv (state (return v) [] n g t)
+        → {v : ℕ} {g : K .Cost} {t : RunCounts} {s : State K M} → Way (value v) g t s → Inv s → (n : ℕ) × Inv (state (return v) [] n g t)
     at-value Inv kept {v} {g} {t} (to-value {v = w} {n = n} e) i = let u : w ≡ v = cc in (n, rw u at i)
     at-value Inv kept (to-halt e h) i = let no : _≡_ {A = ℕ} 0 1 = cc in absurd (omega arith)
     at-value Inv kept (via {s = s} {u = u} x w) i = at-value Inv kept w (kept s u x i)

@@ -4,16 +4,16 @@ use Prim.Native.Nat.{ℕ, zero, suc, _+_, _<_}
 use mathlib.Core.Path.{_≡_, refl, sym, _∙_}
 use native.Mathlib.Numerals.{add-one}
 use native.Mathlib.Omega.{arith}
-use Rattle.schedule.specs.Machine.{Ending, Counts, Outcome, ended, ongoing}
+use Rattle.schedule.specs.Machine.{Ending, RunCounts, Outcome, ended, ongoing}
 use Rattle.schedule.specs.Runs.{and-then, run, EndsIn}
 
 -- The invariant holds on, or the end is as `Fin` says.
-module _ {Cost X : Type 0} (Inv : X → Type 0) (Fin : Ending → Cost → Counts → Type 0) where
+module _ {Cost X : Type 0} (Inv : X → Type 0) (Fin : Ending → Cost → RunCounts → Type 0) where
   unfoldable pub Kept : Outcome Cost X → Type 0
   Kept (ended z g t) = Fin z g t
   Kept (ongoing s) = Inv s
 
-module _ {Cost X : Type 0} (f : X → Outcome Cost X) (Inv : X → Type 0) (Fin : Ending → Cost → Counts → Type 0) where
+module _ {Cost X : Type 0} (f : X → Outcome Cost X) (Inv : X → Type 0) (Fin : Ending → Cost → RunCounts → Type 0) where
   pub keeps : ((s : X) → Inv s → Kept Inv Fin (f s)) → (gas : ℕ) (s : X) → Inv s → Kept Inv Fin (run f gas s)
   unfolding run and-then Kept
   keeps once zero s i = i
@@ -26,7 +26,7 @@ module _ {Cost X : Type 0} (f : X → Outcome Cost X) (Inv : X → Type 0) (Fin 
 -- The invariant holds on with a smaller measure.
 module _ {Cost X : Type 0} (Inv : ℕ → X → Type 0) where
   pub data Falls (k : ℕ) : Outcome Cost X → Type 0 where
-    at-end : {z : Ending} {g : Cost} {t : Counts} → Falls k (ended z g t)
+    at-end : {z : Ending} {g : Cost} {t : RunCounts} → Falls k (ended z g t)
     onward : {s : X} (j : ℕ) → Inv j s → j < k → Falls k (ongoing s)
 
 module _ {Cost X : Type 0} (f : X → Outcome Cost X) (Inv : ℕ → X → Type 0) (once : (k : ℕ) (s : X) → Inv k s → Falls Inv k (f s)) where
@@ -46,7 +46,7 @@ unfolding run
 run-next f k s = rw (add-one k)
 
 -- A run has one end, however many moves it is given.
-pub same-end : {Cost X : Type 0} (f : X → Outcome Cost X) (gas gas' : ℕ) (s : X) {z z' : Ending} {g g' : Cost} {t t' : Counts}
+pub same-end : {Cost X : Type 0} (f : X → Outcome Cost X) (gas gas' : ℕ) (s : X) {z z' : Ending} {g g' : Cost} {t t' : RunCounts}
     → run f gas s ≡ ended z g t → run f gas' s ≡ ended z' g' t' → _≡_ {A = Outcome Cost X} (ended z g t) (ended z' g' t')
 unfolding run and-then
 same-end f zero gas' s e e' = let no : _≡_ {A = ℕ} 0 1 = cc in absurd (omega arith)

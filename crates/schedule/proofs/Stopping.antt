@@ -11,7 +11,7 @@ use lib.ListN.{length}
 use borrow.Author.Tests.{ltb-true, ltb-false}
 use Rattle.schedule.specs.Algebra.{CostAlgebra}
 use Rattle.schedule.specs.FrameMachine.{Place, Control, evaluate, return, Next, go-on, open-frame, open-fork, stuck, Arrival, close, keep, fail, FrameMachine}
-use Rattle.schedule.specs.Machine.{ordinary, plain-left, plain-right, promoted-left, promoted-right, Stack, promotable, promote, Ending, value, stop, Counts, State, state, Result, ended, ongoing, Schedule, promoted-at-birth, promotion-due, after-promotion, with-fuel, with-frame, evaluated, arrived, move, step, start}
+use Rattle.schedule.specs.Machine.{ordinary, plain-left, plain-right, promoted-left, promoted-right, Stack, promotable, promote, Ending, value, stop, RunCounts, State, state, Result, ended, ongoing, Schedule, promoted-at-birth, promotion-due, after-promotion, with-fuel, with-frame, evaluated, arrived, move, step, start}
 use Rattle.schedule.specs.Runs.{moves, outcome}
 use Rattle.schedule.proofs.Runs.{Kept, keeps}
 
@@ -48,7 +48,7 @@ module _ (M : FrameMachine) (CodeOk : M .Code → Type 0) (FrameOk : M .Frame �
     pub body : (b : M .Fork) (u w : ℕ) → ForkOk b → CodeOk (M .body b u w)
 
   -- The end of a run.
-  pub record AtStop (fuel i : ℕ) (p : Place) (t : Counts) : Type 0 where
+  pub record AtStop (fuel i : ℕ) (p : Place) (t : RunCounts) : Type 0 where
     pub tells : Tells i p
     pub within-fuel : t .transitions ≤ fuel
     pub spent : i ≡ 20 → t .transitions ≡ fuel
@@ -78,7 +78,7 @@ module _ (M : FrameMachine) (CodeOk : M .Code → Type 0) (FrameOk : M .Frame �
     abbrev Inv : State K M → Type 0
     Inv (state c S n g t) = ControlOk c × StackOk S × (t .transitions ≤ fuel)
 
-    abbrev Fin : Ending → K .Cost → Counts → Type 0
+    abbrev Fin : Ending → K .Cost → RunCounts → Type 0
     Fin (value v) g t = Unit {0}
     Fin (stop i p) g t = AtStop fuel i p t
 
@@ -87,7 +87,7 @@ module _ (M : FrameMachine) (CodeOk : M .Code → Type 0) (FrameOk : M .Frame �
     Goes o = Kept Inv Fin o
 
     module _ (known : Leading) where
-      fueled : (p : Place) (g : K .Cost) (t : Counts) (o : Result K M) → Tells 20 p → t .transitions ≤ fuel → (t .transitions < fuel → Goes o)
+      fueled : (p : Place) (g : K .Cost) (t : RunCounts) (o : Result K M) → Tells 20 p → t .transitions ≤ fuel → (t .transitions < fuel → Goes o)
           → Goes (with-fuel K M fuel frames p g t o)
       unfolding with-fuel Kept
       fueled p g t o x l f = on (ltb (t .transitions) fuel) refl
@@ -97,7 +97,7 @@ module _ (M : FrameMachine) (CodeOk : M .Code → Type 0) (FrameOk : M .Frame �
           on false e =
               let s = ltb-false (t .transitions) fuel e in record { tells = x; within-fuel = l; spent = λ z. omega arith }
 
-      framed : (S : Stack K M) (p : Place) (g : K .Cost) (t : Counts) (o : Result K M) → Tells 21 p → t .transitions ≤ fuel → Goes o
+      framed : (S : Stack K M) (p : Place) (g : K .Cost) (t : RunCounts) (o : Result K M) → Tells 21 p → t .transitions ≤ fuel → Goes o
           → Goes (with-frame K M fuel frames S p g t o)
       unfolding with-frame Kept
       framed S p g t o x l f = on (ltb (length S) frames)
@@ -106,10 +106,10 @@ module _ (M : FrameMachine) (CodeOk : M .Code → Type 0) (FrameOk : M .Frame �
           on true = f
           on false = record { tells = x; within-fuel = l; spent = λ z. absurd (omega arith) }
 
-      own : {i : ℕ} {p : Place} {t : Counts} → Own i p → t .transitions ≤ fuel → AtStop fuel i p t
+      own : {i : ℕ} {p : Place} {t : RunCounts} → Own i p → t .transitions ≤ fuel → AtStop fuel i p t
       own x l = record { tells = x .tells; within-fuel = l; spent = λ e. absurd (x .other e) }
 
-      module _ (n : ℕ) (g : K .Cost) (t : Counts) (l : t .transitions ≤ fuel) where
+      module _ (n : ℕ) (g : K .Cost) (t : RunCounts) (l : t .transitions ≤ fuel) where
         at-node : (born : Bool) (c : M .Code) (S : Stack K M) → CodeOk c → StackOk S
             → (o : Next (M .Code) (M .Frame) (M .Fork)) → NextOk (M .code-place c) o
             → Goes (evaluated K M fuel frames born (M .code-place c) o S n g t)
@@ -152,7 +152,7 @@ module _ (M : FrameMachine) (CodeOk : M .Code → Type 0) (FrameOk : M .Frame �
           on false = moved n g t (i .2) (promoted-at-birth m) c S (i .0) (i .1)
 
       -- The stop of a run from known code.
-      pub told : (m : Schedule) (c : M .Code) → CodeOk c → (i : ℕ) (p : Place) (g : K .Cost) (t : Counts)
+      pub told : (m : Schedule) (c : M .Code) → CodeOk c → (i : ℕ) (p : Place) (g : K .Cost) (t : RunCounts)
           → outcome K M fuel frames m c ≡ ended (stop i p) g t → AtStop fuel i p t
       unfolding outcome start Kept
       told m c x i p g t e = rw e at (keeps (step K M fuel frames m) Inv Fin (stepped m) (moves fuel frames) (start K M c) (x, tt, omega arith))

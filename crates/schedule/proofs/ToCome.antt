@@ -5,7 +5,7 @@ use mathlib.Core.Bool.{Bool, false, true≢false}
 use mathlib.Core.List.{[]}
 use Rattle.schedule.specs.Algebra.{CostAlgebra}
 use Rattle.schedule.specs.FrameMachine.{Place, Control, return, FrameMachine}
-use Rattle.schedule.specs.Machine.{Stack, Ending, value, stop, Counts, State, state, Schedule, sequential, promoted-at-birth, promotion-due}
+use Rattle.schedule.specs.Machine.{Stack, Ending, value, stop, RunCounts, State, state, Schedule, sequential, promoted-at-birth, promotion-due}
 use Rattle.schedule.proofs.Moves.{Move, goes-on, opens, closes, keeps-frame, forks, turns, joins, forks-freely, turns-freely, joins-freely, Stuck, no-fuel, is-stuck, Step, moves-on, promotes, Way, to-value, to-halt, via}
 
 -- For each fork's frame of the stack, newest first: the span of its right branch, and of what follows its join.
@@ -65,7 +65,7 @@ module _ (K : CostAlgebra) (M : FrameMachine) (fuel frames τ : ℕ) where
   before-step m (moves-on q mv) y = before mv y
   before-step m (promotes h) y = y
 
-module _ (K : CostAlgebra) (M : FrameMachine) (fuel frames : ℕ) (z : Ending) (g' : K .Cost) (t' : Counts) where
+module _ (K : CostAlgebra) (M : FrameMachine) (fuel frames : ℕ) (z : Ending) (g' : K .Cost) (t' : RunCounts) where
   -- The rest of a sequential run that ends as z, and not for want of fuel.
   pub data Rest : State K M → Type 0 where
     at-value : {c : Control (M .Code)} {S : Stack K M} {n v : ℕ} → c ≡ return v → S ≡ [] → z ≡ value v → Rest (state c S n g' t')

@@ -8,7 +8,7 @@ use native.Mathlib.Omega.{arith}
 use Rattle.schedule.specs.Graph.{Graph, transition, work, span}
 use Rattle.schedule.specs.Algebra.{graphs}
 use Rattle.schedule.specs.FrameMachine.{FrameMachine}
-use Rattle.schedule.specs.Machine.{Slot, ordinary, plain-left, plain-right, promoted-left, promoted-right, promotable, Ending, value, Counts, State, state, Schedule, sequential, promoted-at-birth, promotion-due, start}
+use Rattle.schedule.specs.Machine.{Slot, ordinary, plain-left, plain-right, promoted-left, promoted-right, promotable, Ending, value, RunCounts, State, state, Schedule, sequential, promoted-at-birth, promotion-due, start}
 use Rattle.schedule.specs.Runs.{moves, outcome}
 use Rattle.schedule.specs.Bounds.{total}
 use Rattle.schedule.specs.Demand.{WorkCounted, Chain, SequentialChain}
@@ -66,7 +66,7 @@ module _ (M : FrameMachine) (fuel frames τ : ℕ) where
   unfoldable ChainState : State graphs M → Type 0
   ChainState (state c S n g t) = AllPlain S × Chain τ g t
 
-  one-more : {g : Graph} {t u : Counts} → u .transitions ≡ t .transitions + 1 → u .forks ≡ t .forks → Chain τ g t
+  one-more : {g : Graph} {t u : RunCounts} → u .transitions ≡ t .transitions + 1 → u .forks ≡ t .forks → Chain τ g t
       → Chain τ (transition g) u
   unfolding work span
   one-more e f i = record { work-is = omega arith; span-is = omega arith; forks-are = omega arith }
@@ -83,7 +83,7 @@ module _ (M : FrameMachine) (fuel frames τ : ℕ) where
   chain-move turns-freely i = absurd (i .0)
   chain-move joins-freely i = absurd (i .0)
 
-  chain-way : {z : Ending} {g : Graph} {t : Counts} {s : State graphs M} → Way graphs M fuel frames sequential z g t s → ChainState s
+  chain-way : {z : Ending} {g : Graph} {t : RunCounts} {s : State graphs M} → Way graphs M fuel frames sequential z g t s → ChainState s
       → Chain τ g t
   unfolding ChainState promoted-at-birth promotion-due
   chain-way (to-value e) i = i .1

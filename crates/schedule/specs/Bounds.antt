@@ -8,7 +8,7 @@ use lib.Dec.{leb}
 use lib.ListN.{length}
 use Rattle.schedule.specs.Algebra.{CostAlgebra, spans}
 use Rattle.schedule.specs.FrameMachine.{Control, evaluate, return, FrameMachine}
-use Rattle.schedule.specs.Machine.{Slot, ordinary, plain-left, plain-right, promoted-left, promoted-right, Stack, promotable, Counts, State, state, Result, ended, ongoing, Schedule, sequential, parallel, heartbeat, after-promotion, move}
+use Rattle.schedule.specs.Machine.{Slot, ordinary, plain-left, plain-right, promoted-left, promoted-right, Stack, promotable, RunCounts, State, state, Result, ended, ongoing, Schedule, sequential, parallel, heartbeat, after-promotion, move}
 
 -- The sum over a stack of a number for each of its frames.
 unfoldable pub total : {Cost Frame Fork : Type 0} → (Slot Cost Frame Fork → ℕ) → List (Slot Cost Frame Fork) → ℕ
@@ -59,7 +59,7 @@ kept-spans (promoted-right g l b v) = 10000 + g + l
 
 -- What every step keeps, where τ is at most 10,000. With fuel at most 100,000,000 and 4,096 frames no sum of counts passes 2 ^ 60, so
 -- that code need not test its sums.
-pub record Bounded (τ : ℕ) (M : FrameMachine) (fuel frames : ℕ) (c : Control (M .Code)) (S : Stack (spans τ) M) (n g : ℕ) (t : Counts)
+pub record Bounded (τ : ℕ) (M : FrameMachine) (fuel frames : ℕ) (c : Control (M .Code)) (S : Stack (spans τ) M) (n g : ℕ) (t : RunCounts)
     : Type 0 where
   pub within-fuel : t .transitions ≤ fuel
   pub within-frames : length S ≤ frames

@@ -53,31 +53,31 @@ pub data Ending : Type 0 where
 
 -- The counts of a run, apart from credits and fuel. `deepest` is the most frames that were occupied at once: the frames resource of demand 2,
 -- and what request P7 adds to the answers. Work and span are the graph's. Counts change by the three functions below, and by nothing else.
-pub record Counts : Type 0 where
+pub record RunCounts : Type 0 where
   pub transitions : ℕ
   pub forks : ℕ
   pub deepest : ℕ
 
-abbrev pub zeros : Counts
+abbrev pub zeros : RunCounts
 zeros = record { transitions = 0; forks = 0; deepest = 0 }
 
-abbrev pub tick : Counts → Counts
+abbrev pub tick : RunCounts → RunCounts
 tick t = record { transitions = t .transitions + 1; forks = t .forks; deepest = t .deepest }
 
 -- 01: "Forks are parallel forks, or promotions."
-abbrev pub split : Counts → Counts
+abbrev pub split : RunCounts → RunCounts
 split t = record { transitions = t .transitions; forks = t .forks + 1; deepest = t .deepest }
 
-abbrev pub deeper : ℕ → Counts → Counts
+abbrev pub deeper : ℕ → RunCounts → RunCounts
 deeper d t = record { transitions = t .transitions; forks = t .forks; deepest = max (t .deepest) d }
 
 -- Control, stack, credits, cost of the machine that runs now, counts.
 pub data State (K : CostAlgebra) (M : FrameMachine) : Type 0 where
-  state : Control (M .Code) → Stack K M → ℕ → K .Cost → Counts → State K M
+  state : Control (M .Code) → Stack K M → ℕ → K .Cost → RunCounts → State K M
 
 -- What a step, or a run, comes to: an end with its cost and counts, or a state to go on from.
 pub data Outcome (Cost X : Type 0) : Type 0 where
-  ended : Ending → Cost → Counts → Outcome Cost X
+  ended : Ending → Cost → RunCounts → Outcome Cost X
   ongoing : X → Outcome Cost X
 
 -- That of one machine.
@@ -106,41 +106,41 @@ promotion-due (heartbeat N) credits able = leb N credits && able
 -- THE STATES that steps lead to. In all but the first the credits start again at 0.
 module _ (K : CostAlgebra) (M : FrameMachine) where
   -- 01: credits are "one more at each transition", and "a transition costs 1 of work and span" (004: SEQSTEP, PARSTEP, HBSTEP).
-  abbrev pub after-transition : Control (M .Code) → Stack K M → ℕ → K .Cost → Counts → State K M
+  abbrev pub after-transition : Control (M .Code) → Stack K M → ℕ → K .Cost → RunCounts → State K M
   after-transition c S n g t = state c S (n + 1) (K .transition g) (tick t)
 
   -- A promotion. 01, Heartbeat: "The newer frames become a left machine that goes on; the right branch becomes a fresh machine; the body, with the
   -- older frames, goes on after both. All three start with 0 credits. Promotion takes no transition and no fuel" (004: HBPROMOTE).
-  abbrev pub after-promotion : Control (M .Code) → Stack K M → ℕ → K .Cost → Counts → State K M
+  abbrev pub after-promotion : Control (M .Code) → Stack K M → ℕ → K .Cost → RunCounts → State K M
   after-promotion c S n g t = state c (promote g S) 0 (K .empty) (split t)
 
   -- A fork that is promoted at its birth. 01, Parallel: "The fork, the change from left to right and the join take no transition and no fuel.
   -- The fork occupies one frame until its join." (004: PARPAIR)
-  abbrev pub after-fork : M .Fork → M .Code → Stack K M → ℕ → K .Cost → Counts → State K M
+  abbrev pub after-fork : M .Fork → M .Code → Stack K M → ℕ → K .Cost → RunCounts → State K M
   after-fork b d S n g t = state (evaluate d) (promoted-left g b ∷ S) 0 (K .empty) (deeper (length S + 1) (split t))
 
   -- The change from left to right at a promoted frame: the left machine's cost is kept there, and the right branch is "a fresh machine".
-  abbrev pub after-turn : M .Fork → ℕ → K .Cost → Stack K M → ℕ → K .Cost → Counts → State K M
+  abbrev pub after-turn : M .Fork → ℕ → K .Cost → Stack K M → ℕ → K .Cost → RunCounts → State K M
   after-turn b v h S n g t = state (evaluate (M .right b)) (promoted-right h g b v ∷ S) 0 (K .empty) t
 
   -- The join: "the body, with the older frames, goes on after both". Its cost is the fork of the two graphs after the one before it.
-  abbrev pub after-join : M .Fork → ℕ → ℕ → K .Cost → K .Cost → Stack K M → ℕ → K .Cost → Counts → State K M
+  abbrev pub after-join : M .Fork → ℕ → ℕ → K .Cost → K .Cost → Stack K M → ℕ → K .Cost → RunCounts → State K M
   after-join b w v h l S n g t = state (evaluate (M .body b w v)) S 0 (K .fork h l g) t
 
 -- THE STEPS. 01: "Before each transition, in this order: a promotion that is due (heartbeat only), fuel, then a free frame where one is opened, then
 -- arithmetic." and "A transition that stops is not counted."
 module _ (K : CostAlgebra) (M : FrameMachine) (fuel frames : ℕ) where
   -- 20: "the transitions made equal the fuel and another is needed"
-  unfoldable pub with-fuel : Place → K .Cost → Counts → Result K M → Result K M
+  unfoldable pub with-fuel : Place → K .Cost → RunCounts → Result K M → Result K M
   with-fuel p g t o = cond (ltb (t .transitions) fuel) o (ended (stop 20 p) g t)
 
   -- 21: "all frames are occupied and one more must be opened"
-  unfoldable pub with-frame : Stack K M → Place → K .Cost → Counts → Result K M → Result K M
+  unfoldable pub with-frame : Stack K M → Place → K .Cost → RunCounts → Result K M → Result K M
   with-frame S p g t o = cond (ltb (length S) frames) o (ended (stop 21 p) g t)
 
   -- A node is evaluated. Where `born`, a fork is promoted at its birth, and "A parallel fork looks only for its free frame". What `stuck` and `fail`
   -- tell is looked at last: it is the arithmetic.
-  unfoldable pub evaluated : Bool → Place → Next (M .Code) (M .Frame) (M .Fork) → Stack K M → ℕ → K .Cost → Counts → Result K M
+  unfoldable pub evaluated : Bool → Place → Next (M .Code) (M .Frame) (M .Fork) → Stack K M → ℕ → K .Cost → RunCounts → Result K M
   evaluated born p (go-on c) S n g t = with-fuel p g t (ongoing (after-transition K M c S n g t))
   evaluated born p (open-frame f d) S n g t =
       with-fuel p g t (with-frame S p g t (ongoing (after-transition K M (evaluate d) (ordinary f ∷ S) n g (deeper (length S + 1) t))))
@@ -150,7 +150,7 @@ module _ (K : CostAlgebra) (M : FrameMachine) (fuel frames : ℕ) where
   evaluated born p (stuck i) S n g t = with-fuel p g t (ended (stop i p) g t)
 
   -- A value returns to an ordinary frame.
-  unfoldable pub arrived : Place → Arrival (M .Code) (M .Frame) → Stack K M → ℕ → K .Cost → Counts → Result K M
+  unfoldable pub arrived : Place → Arrival (M .Code) (M .Frame) → Stack K M → ℕ → K .Cost → RunCounts → Result K M
   arrived p (close c) S n g t = with-fuel p g t (ongoing (after-transition K M c S n g t))
   arrived p (keep f d) S n g t = with-fuel p g t (ongoing (after-transition K M (evaluate d) (ordinary f ∷ S) n g t))
   arrived p (fail i) S n g t = with-fuel p g t (ended (stop i p) g t)

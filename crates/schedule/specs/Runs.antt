@@ -4,7 +4,7 @@ use Prim.Native.Nat.{ℕ, zero, suc, _+_, _*_}
 use mathlib.Core.Path.{_≡_}
 use Rattle.schedule.specs.Algebra.{CostAlgebra}
 use Rattle.schedule.specs.FrameMachine.{FrameMachine}
-use Rattle.schedule.specs.Machine.{Ending, Counts, Outcome, Result, ended, ongoing, Schedule, step, start}
+use Rattle.schedule.specs.Machine.{Ending, RunCounts, Outcome, Result, ended, ongoing, Schedule, step, start}
 
 -- Go on from an outcome, unless it is an end.
 unfoldable pub and-then : {Cost X Y : Type 0} → Outcome Cost X → (X → Outcome Cost Y) → Outcome Cost Y
@@ -28,7 +28,7 @@ outcome K M fuel frames m c = run (step K M fuel frames m) (moves fuel frames) (
 -- An outcome is an end of the kind z, with some cost and counts.
 pub record EndsIn {Cost X : Type 0} (o : Outcome Cost X) (z : Ending) : Type 0 where
   pub cost : Cost
-  pub counts : Counts
+  pub counts : RunCounts
   pub is : o ≡ ended z cost counts
 
 -- THEOREM (proofs/Finish.antt, `finishes`): every run of every frame machine comes to its end.

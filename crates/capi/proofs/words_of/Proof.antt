@@ -1,6 +1,6 @@
 -- `capi::words_of` meets its contract, case by case. Assumes nothing.
 use borrow.Author.Needs.{needs}
-use Rattle.capi.specs.Words.{wordsOf}
+use Rattle.capi.specs.Words.{answerWords}
 use Rattle.capi.proofs.words_of.Statement.{statement}
 use Rattle.capi.proofs.words_of.Tie as tie
 
@@ -20,15 +20,15 @@ cast-t10 : tie.Need-cast-t10
 cast-t10 c = search needs
 
 returns : tie.Need-returns
-unfolding wordsOf
+unfolding answerWords
 returns c = rw (c .before .answer .given .1)
 
 returns-2 : tie.Need-returns-2
-unfolding wordsOf
+unfolding answerWords
 returns-2 c = rw (c .before .before .answer2 .given .1)
 
 returns-3 : tie.Need-returns-3
-unfolding wordsOf
+unfolding answerWords
 returns-3 c = rw (c .before .before .answer3 .given .1)
 
 pub words-of-spec : {M : Type 1} → statement M
