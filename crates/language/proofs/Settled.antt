@@ -1,5 +1,6 @@
 -- The settled runs of document 01 and the further ones, by computation: each row's table is read, accepted, and run.
 use mathlib.Core.Path.{refl}
+use mathlib.Core.List.{List}
 use Rattle.table.specs.Words.{nodesBefore}
 use Rattle.table.specs.Nodes.{arithmeticOf, nodeOf}
 use Rattle.table.specs.Walk as walk
@@ -10,14 +11,30 @@ use Rattle.schedule.specs.Machine.{promotable, promote, promoted-at-birth, prom
 use Rattle.schedule.specs.Runs.{and-then, run, outcome}
 use Rattle.language.specs.Language.{result, operated, call, next, gathered, arrive}
 use Rattle.language.specs.Checks.{rangeOf, argumentsOf, workspaceOf, settingsOf, checkedOf}
+use Rattle.language.specs.declared.Answer.{Answer}
 use Rattle.language.specs.Answers.{toldBy, afterCheck, runOf, answerOf}
-use Rattle.language.specs.Settled.{rows, answered, told, SettledRuns}
+use Rattle.language.specs.Settled.{Row, rows, answered, told, SettledRuns}
 use Rattle.language.specs.Examples.{examples, ExampleRuns}
+use Rattle.language.specs.ExampleStops.{stopExamples, StopExampleRuns}
+use Rattle.language.specs.ExampleRefusals.{lets, refusalExamples, RefusalExampleRuns}
+
+-- The answers of rows; to unfold it is to unfold all that an answer is computed by.
+by-computation : List Row → List Answer
+unfolding answered told answerOf afterCheck runOf toldBy checkedOf settingsOf workspaceOf argumentsOf rangeOf readOf bodies contents each bodyRead rootOf exact entry header _then_ nodesBefore arithmeticOf nodeOf computed work span promotable promote promoted-at-birth promotion-due with-fuel with-frame evaluated arrived move step start and-then run outcome result operated call next gathered arrive walk.unusedOf walk.callShape walk.shapeOf walk.next walk.afterFirst walk.children walk.own walk.walkOf
+by-computation rs = answered rs
 
 pub settled : SettledRuns
-unfolding rows answered told answerOf afterCheck runOf toldBy checkedOf settingsOf workspaceOf argumentsOf rangeOf readOf bodies contents each bodyRead rootOf exact entry header _then_ nodesBefore arithmeticOf nodeOf computed work span promotable promote promoted-at-birth promotion-due with-fuel with-frame evaluated arrived move step start and-then run outcome result operated call next gathered arrive walk.unusedOf walk.callShape walk.shapeOf walk.next walk.afterFirst walk.children walk.own walk.walkOf
+unfolding rows by-computation
 settled = refl
 
 pub worked : ExampleRuns
-unfolding examples answered told answerOf afterCheck runOf toldBy checkedOf settingsOf workspaceOf argumentsOf rangeOf readOf bodies contents each bodyRead rootOf exact entry header _then_ nodesBefore arithmeticOf nodeOf computed work span promotable promote promoted-at-birth promotion-due with-fuel with-frame evaluated arrived move step start and-then run outcome result operated call next gathered arrive walk.unusedOf walk.callShape walk.shapeOf walk.next walk.afterFirst walk.children walk.own walk.walkOf
+unfolding examples by-computation
 worked = refl
+
+pub stops-worked : StopExampleRuns
+unfolding stopExamples by-computation
+stops-worked = refl
+
+pub refusals-worked : RefusalExampleRuns
+unfolding lets refusalExamples by-computation
+refusals-worked = refl

@@ -7,7 +7,7 @@ use mathlib.Core.List.{List, [], _∷_, _++_}
 use native.Mathlib.Omega.{arith}
 use lib.Dec.{leb, ltb, eqb}
 use lib.ListN.{length, length-append}
-use borrow.Author.Tests.{ltb-true, lt-ltb, le-ltb}
+use borrow.Author.Tests.{ltb-true}
 use Rattle.table.specs.declared.Reading.{Reading}
 use Rattle.table.specs.declared.Reading.the-variants as reading
 use Rattle.table.specs.declared.Operation.{Operation}
@@ -16,8 +16,8 @@ use Rattle.table.specs.declared.Node.{Node}
 use Rattle.table.specs.declared.Node.the-variants.{Constant, Local, Arithmetic, Choose, Let, Call, Both, Unknown}
 use Rattle.table.specs.Words.{functions, arityAt, nodesAt, startOf, bodyAt, tagAt, aAt, bAt, cAt}
 use Rattle.table.specs.Nodes.{nodeAt}
-use Rattle.table.specs.WellFormed.{Subtree, root, Children, none, one, two, three, Assured, call, WellFormed}
-use Rattle.table.proofs.Views.{assured, tagFor, node-tag, known-node, at-arithmetic, at-choose, at-let, at-call, at-both}
+use Rattle.table.specs.WellFormed.{Subtree, root, Children, Assured, call, WellFormed}
+use Rattle.table.proofs.Views.{assured, tagFor, node-tag, known-node, at-arithmetic, at-choose, at-let, at-call, at-both, first-of, later-of}
 use Rattle.schedule.specs.Graph.{Graph}
 use Rattle.schedule.specs.Algebra.{graphs}
 use Rattle.schedule.specs.FrameMachine.{Place, evaluate, close, keep}
@@ -141,27 +141,12 @@ module _ (w : List ℕ) (table : WellFormed w) where
     tagged : (o : Node) (tag : ℕ) → node ≡ o → tagFor o ≡ tag → Tagged w c tag
     tagged o tag e t = record { stands = s; is = tag-is o e ∙ t }
 
-    first-of : {level p k q b d n : ℕ} → Children w (bodyAt w (c .function)) level p k k q b d n → 0 < n → Stands w (c .function) (p + 1)
-    first-of (none e) h = absurd (omega arith)
-    first-of (one t) h = there t
-    first-of (two t u) h = there t
-    first-of (three t u v) h = there t
-
-    later-of : {level p k q b d n : ℕ} (i : ℕ) → Children w (bodyAt w (c .function)) level p k k q b d n → i < n → n ≤ 3 → 1 ≤ i
-        → Stands w (c .function) (cond (ltb 1 i) d b)
-    later-of i (none e) h j l = absurd (omega arith)
-    later-of i (one t) h j l = absurd (omega arith)
-    later-of i (two t u) h j l = rw (le-ltb 1 i (omega arith)) (there u)
-    later-of zero (three t u v) h j l = absurd (omega arith)
-    later-of (suc zero) (three t u v) h j l = there u
-    later-of (suc (suc i)) (three t u v) h j l = rw (lt-ltb 1 (suc (suc i)) (omega arith)) (there v)
-
     called : {f b d : ℕ} {level k q : ℕ} → Assured w (bodyAt w (c .function)) level (c .node) k q (Call f b d)
         → (n : ℕ) → arityAt w f ≡ n → Tagged w c 5
         → Nexts w (place c) (language.call w c f n)
     unfolding language.call
     called {f} (call h ch) zero e t = enter f h
-    called (call h ch) (suc n) e t = (t, first-of ch (omega arith))
+    called (call h ch) (suc n) e t = (t, there (first-of w (bodyAt w (c .function)) ch (omega arith) .tree))
 
     next-known : (o : Node) → node ≡ o → Nexts w (place c) (next w c o)
     unfolding next tagFor
@@ -212,7 +197,7 @@ module _ (w : List ℕ) (table : WellFormed w) where
             (cond q (keep (argument c vs) (language.at c (cond (ltb 1 (length vs)) (language.third w c) (language.second w c)) (c .locals)))
             (close (evaluate (language.entered (language.called w c) vs))))
         on true e =
-            (t, later-of c (t .stands) (length vs) (ch .1) (ltb-true _ _ e) (table .contents .entries _ (ch .0) .arity) l)
+            (t, there c (t .stands) (later-of w (bodyAt w (c .function)) (length vs) (ch .1) (ltb-true _ _ e) (table .contents .entries _ (ch .0) .arity) l .tree))
         on false e = enter (language.called w c) (ch .0)
 
   arrive-known : (f : Frame) (v : ℕ) → FrameOk w f → Arrives w (frame-place f) (arrive w f v)

@@ -1,15 +1,14 @@
--- Further runs, worked by hand from document 01's sentences: transitions, operations, stops and refusals that no starred run has. They
--- hold the definitions to 01 where the theorems would be true of any language. Proved in proofs/Settled.antt, `worked`.
+-- Further runs, worked by hand from document 01's sentences: transitions, operations and their stops that no starred run has. They hold
+-- the definitions to 01 where the theorems would be true of any language. ExampleStops.antt and ExampleRefusals.antt have the other
+-- stops and the refusals. Proved in proofs/Settled.antt, `worked`.
 use Prim.Native.Nat.{ℕ}
 use mathlib.Core.Path.{_≡_}
 use mathlib.Core.List.{List, [], _∷_}
-use Rattle.language.specs.declared.Answer.{Answer}
-use Rattle.language.specs.declared.Answer.the-variants.{Refused}
 use Rattle.language.specs.Answers.{sequentialOf, parallelOf, heartbeatOf}
 use Rattle.language.specs.Settled.{Row, row, value, stop, tableA, answered, told}
 
 -- an operation on the two arguments
-abbrev operation : ℕ → List ℕ
+abbrev pub operation : ℕ → List ℕ
 operation o =
     1 ∷ 2 ∷ 3
     ∷ 2 ∷ o ∷ 2 ∷ 0
@@ -18,7 +17,7 @@ operation o =
     ∷ []
 
 -- 10 if the argument is not zero, else 20
-abbrev choice : List ℕ
+abbrev pub choice : List ℕ
 choice =
     1 ∷ 1 ∷ 4
     ∷ 3 ∷ 0 ∷ 2 ∷ 3
@@ -28,7 +27,7 @@ choice =
     ∷ []
 
 -- let 8: it less the argument
-abbrev binding : List ℕ
+abbrev pub binding : List ℕ
 binding =
     1 ∷ 1 ∷ 5
     ∷ 4 ∷ 0 ∷ 2 ∷ 0
@@ -39,7 +38,7 @@ binding =
     ∷ []
 
 -- the entry calls function 1 with its second, its first and its third argument; that one gives its first less its second
-abbrev calling : List ℕ
+abbrev pub calling : List ℕ
 calling =
     2 ∷ 3 ∷ 4 ∷ 3 ∷ 3
     ∷ 5 ∷ 1 ∷ 2 ∷ 3
@@ -52,7 +51,7 @@ calling =
     ∷ []
 
 -- both: left 9, right the argument; the body is left's value less right's
-abbrev forking : List ℕ
+abbrev pub forking : List ℕ
 forking =
     1 ∷ 1 ∷ 6
     ∷ 6 ∷ 0 ∷ 2 ∷ 3
@@ -62,9 +61,6 @@ forking =
     ∷ 1 ∷ 1 ∷ 0 ∷ 0
     ∷ 1 ∷ 2 ∷ 0 ∷ 0
     ∷ []
-
-abbrev refused : ℕ → Answer
-refused number = Refused (record { number = number; function = 0; node = 0 })
 
 -- machine, table, arguments, fuel, N, τ, frames, answer
 unfoldable pub examples : List Row
@@ -90,18 +86,7 @@ examples =
     ∷ row sequentialOf (operation 5) (7 ∷ 7 ∷ []) 100 3 2 256 (value 0 5 0 5 5)
     ∷ row sequentialOf (operation 6) (7 ∷ 7 ∷ []) 100 3 2 256 (value 1 5 0 5 5)
     ∷ row sequentialOf (operation 6) (2 ∷ 7 ∷ []) 100 3 2 256 (value 0 5 0 5 5)
-    -- the refusals, in their order; each row has also the faults of the higher numbers
-    ∷ row sequentialOf [] [] 0 0 0 0 (refused 1)
-    ∷ row sequentialOf (65 ∷ []) [] 0 0 0 0 (refused 1)
-    ∷ row sequentialOf tableA (1 ∷ []) 0 0 0 0 (refused 7)
-    ∷ row sequentialOf tableA [] 0 0 0 0 (refused 8)
-    ∷ row sequentialOf tableA [] 100000001 0 0 0 (refused 8)
-    ∷ row sequentialOf tableA [] 100000000 0 0 0 (refused 9)
-    ∷ row sequentialOf tableA [] 100 10001 0 0 (refused 9)
-    ∷ row sequentialOf tableA [] 100 10000 0 0 (refused 10)
-    ∷ row sequentialOf tableA [] 100 3 10001 0 (refused 10)
-    ∷ row sequentialOf tableA [] 100 3 10000 0 (refused 11)
-    ∷ row sequentialOf tableA [] 100 3 2 4097 (refused 11)
+    -- the largest fuel, N, τ and workspace
     ∷ row sequentialOf tableA [] 100000000 10000 10000 4096 (value 4 11 0 11 11)
     ∷ []
 

@@ -9,3 +9,5 @@ pub mod Stops
 pub mod Claim
 pub mod Settled
 pub mod Examples
+pub mod ExampleStops
+pub mod ExampleRefusals

@@ -1,21 +1,20 @@
 -- What stands at a node and at its children, and that its words are within the table.
-use Prim.Native.Nat.{ℕ, zero, suc, _+_, _*_, _<_, _≤_}
+use Prim.Native.Nat.{ℕ, _+_, _*_, _<_, _≤_}
 use mathlib.Core.Path.{_≡_, sym, ap, _∙_}
 use mathlib.Core.List.{List}
 use mathlib.Core.Bool.{cond}
 use native.Mathlib.Omega.{arith}
 use lib.ListN.{length, getD}
 use lib.Dec.{ltb}
-use borrow.Author.Tests.{lt-ltb, le-ltb}
 use Rattle.table.specs.declared.Operation.{Operation}
 use Rattle.table.specs.declared.Node.the-variants.{Local, Arithmetic, Call, Unknown}
 use Rattle.table.specs.Words.{functions, arityAt, nodesAt, startOf, bodyAt, tagAt, aAt, bAt, cAt}
 use Rattle.table.specs.Nodes.{nodeOf, nodeAt}
 use Rattle.table.specs.Read.{startsOf}
-use Rattle.table.specs.WellFormed.{WellFormed, Subtree, Children, none, one, two, three}
+use Rattle.table.specs.WellFormed.{WellFormed, Subtree}
 use Rattle.table.proofs.Bodies.{node-inside}
 use Rattle.table.proofs.Trees.{moves}
-use Rattle.table.proofs.Views.{at-local, at-arithmetic, at-choose, at-let, at-call, at-both, tagFor, node-tag, known-node}
+use Rattle.table.proofs.Views.{at-local, at-arithmetic, at-choose, at-let, at-call, at-both, first-of, later-of, tagFor, node-tag, known-node}
 use Rattle.table.proofs.Filling.{starts-of, starts-sixty-four}
 use Rattle.moves.specs.Ready.{Stands}
 
@@ -70,25 +69,11 @@ module _ (w : List ℕ) (table : WellFormed w) where
     called-in t = at-call w (bodyAt w f) (s .tree) t .0
 
     -- the first argument, and those after it: the second at b and the third at c
-    first-of : {level q b c n : ℕ} → Children w (bodyAt w f) level p k k q b c n → 0 < n → Stands w f (p + 1) k
-    first-of (none e) h = absurd (omega arith)
-    first-of (one t) h = there (s .few) t
-    first-of (two t u) h = there (s .few) t
-    first-of (three t u v) h = there (s .few) t
-
-    later-of : {level q b c n : ℕ} (i : ℕ) → Children w (bodyAt w f) level p k k q b c n → i < n → n ≤ 3 → 1 ≤ i → Stands w f (cond (ltb 1 i) c b) k
-    later-of i (none e) h j l = absurd (omega arith)
-    later-of i (one t) h j l = absurd (omega arith)
-    later-of i (two t u) h j l = rw (le-ltb 1 i (omega arith)) (there (s .few) u)
-    later-of zero (three t u v) h j l = absurd (omega arith)
-    later-of (suc zero) (three t u v) h j l = there (s .few) u
-    later-of (suc (suc i)) (three t u v) h j l = rw (lt-ltb 1 (suc (suc i)) (omega arith)) (there (s .few) v)
-
     pub argument-first : tagAt w (startOf w f) p ≡ 5 → 0 < arityAt w (aAt w (startOf w f) p) → Stands w f (p + 1) k
-    argument-first t h = first-of (at-call w (bodyAt w f) (s .tree) t .1) h
+    argument-first t h = there (s .few) (first-of w (bodyAt w f) (at-call w (bodyAt w f) (s .tree) t .1) h .tree)
 
     pub argument-later : tagAt w (startOf w f) p ≡ 5 → (i : ℕ) → 1 ≤ i → i < arityAt w (aAt w (startOf w f) p) → Stands w f (cond (ltb 1 i) (cAt w (startOf w f) p) (bAt w (startOf w f) p)) k
-    argument-later t i l h = later-of i (at-call w (bodyAt w f) (s .tree) t .1) h (table .contents .entries _ (called-in t) .arity) l
+    argument-later t i l h = there (s .few) (later-of w (bodyAt w f) i (at-call w (bodyAt w f) (s .tree) t .1) h (table .contents .entries _ (called-in t) .arity) l .tree)
 
     -- a node that is a call, by what it calls
     pub called-is : (g b c : ℕ) → nodeAt w (startOf w f) p ≡ Call g b c → (tagAt w (startOf w f) p ≡ 5) × (aAt w (startOf w f) p ≡ g)

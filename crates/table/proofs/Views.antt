@@ -4,7 +4,8 @@ use mathlib.Core.Path.{_≡_, refl, sym}
 use mathlib.Core.List.{List}
 use mathlib.Core.Bool.{Bool, true, false, cond, true≢false}
 use lib.Dec.{ltb}
-use borrow.Author.Tests.{ltb-true, leb-true}
+use native.Mathlib.Omega.{arith}
+use borrow.Author.Tests.{ltb-true, leb-true, lt-ltb, le-ltb}
 use Rattle.table.specs.declared.Operation.{Operation}
 use Rattle.table.specs.declared.Operation.the-variants.{Add, Subtract, Multiply, Divide, Remainder, Less, Equal}
 use Rattle.table.specs.declared.Node.{Node}
@@ -13,7 +14,7 @@ use Rattle.table.specs.declared.Body.{Body}
 use Rattle.table.specs.Words.{functions, arityAt, tagAt, aAt, bAt, cAt}
 use Rattle.table.specs.Nodes.{arithmeticOf, nodeOf, nodeAt}
 use Rattle.table.specs.Walk.{known, unknown, unusedOf, shapeOf, callShape}
-use Rattle.table.specs.WellFormed.{Subtree, root, Children, none, two, three, Assured, constant, local, arithmetic, choose, binding, call, both}
+use Rattle.table.specs.WellFormed.{Subtree, root, Children, none, one, two, three, Assured, constant, local, arithmetic, choose, binding, call, both}
 use Rattle.table.proofs.Shapes.{Sound, sound}
 
 -- a node and the words that it was read from
@@ -170,3 +171,28 @@ module _ (w : List ℕ) (body : Body) where
         → (k + 2 ≤ 16) × Subtree w body (level + 1) (p + 1) k (bAt w (body .start) p) × Subtree w body (level + 1) (bAt w (body .start) p) k (cAt w (body .start) p) × Subtree w body (level + 1) (cAt w (body .start) p) (k + 2) q
     unfolding nodeOf
     at-both t = both-of (rw t at (assured w body s))
+
+-- a subtree at p with k locals bound, at some level
+pub record Argument (w : List ℕ) (body : Body) (p k : ℕ) : Type 0 where
+  pub level : ℕ
+  pub after : ℕ
+  pub tree : Subtree w body level p k after
+
+-- the arguments of a call: the first, and those after it, the second at b and the third at c
+module _ (w : List ℕ) (body : Body) where
+  standing : {level p k q : ℕ} → Subtree w body level p k q → Argument w body p k
+  standing {level} {p} {k} {q} t = record { level = level; after = q; tree = t }
+
+  pub first-of : {level p k q b c n : ℕ} → Children w body level p k k q b c n → 0 < n → Argument w body (p + 1) k
+  first-of (none e) h = absurd (omega arith)
+  first-of (one t) h = standing t
+  first-of (two t u) h = standing t
+  first-of (three t u v) h = standing t
+
+  pub later-of : {level p k q b c n : ℕ} (i : ℕ) → Children w body level p k k q b c n → i < n → n ≤ 3 → 1 ≤ i → Argument w body (cond (ltb 1 i) c b) k
+  later-of i (none e) h j l = absurd (omega arith)
+  later-of i (one t) h j l = absurd (omega arith)
+  later-of i (two t u) h j l = rw (le-ltb 1 i (omega arith)) (standing u)
+  later-of zero (three t u v) h j l = absurd (omega arith)
+  later-of (suc zero) (three t u v) h j l = standing u
+  later-of (suc (suc i)) (three t u v) h j l = rw (lt-ltb 1 (suc (suc i)) (omega arith)) (standing v)

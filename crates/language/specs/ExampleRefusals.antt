@@ -1,0 +1,75 @@
+-- The refusals, 1 to 11: inputs worked by hand from document 01, "Turned away by the input". Proved in proofs/Settled.antt, `refusals-worked`.
+use Prim.Native.Nat.{ℕ, zero, suc}
+use mathlib.Core.Path.{_≡_}
+use mathlib.Core.List.{List, [], _∷_}
+use Rattle.language.specs.declared.Answer.{Answer}
+use Rattle.language.specs.declared.Answer.the-variants.{Refused}
+use Rattle.language.specs.Answers.{sequentialOf}
+use Rattle.language.specs.Settled.{Row, row, tableA, answered, told}
+
+abbrev refusedAt : ℕ → ℕ → ℕ → Answer
+refusedAt number function node = Refused (record { number = number; function = function; node = node })
+
+-- "The answer is the number with function and node, both 0 for 1, 3 and 7 to 11"
+abbrev refused : ℕ → Answer
+refused number = refusedAt number 0 0
+
+-- so many lets, each the first child of the one before, and a constant: where the walk comes to it no second child has been looked for
+unfoldable pub lets : ℕ → List ℕ
+lets zero = 0 ∷ 0 ∷ 0 ∷ 0 ∷ []
+lets (suc n) = 4 ∷ 0 ∷ 0 ∷ 0 ∷ lets n
+
+-- one function, of arity 0, with so many nodes
+abbrev function : ℕ → List ℕ → List ℕ
+function nodes body = 1 ∷ 0 ∷ nodes ∷ body
+
+-- a table with no arguments, and with the faults of 7 to 11 too: "Numbers are tried in rising order"
+abbrev at-fault : List ℕ → Answer → Row
+at-fault table answer = row sequentialOf table (1 ∷ []) 0 0 0 0 answer
+
+-- machine, table, arguments, fuel, N, τ, frames, answer
+unfoldable pub refusalExamples : List Row
+refusalExamples =
+    -- "No word, F not 1 to 64, or fewer than 1 + 2F words."
+    at-fault [] (refused 1)
+    ∷ at-fault (0 ∷ []) (refused 1)
+    ∷ at-fault (65 ∷ []) (refused 1)
+    ∷ at-fault (2 ∷ 0 ∷ 1 ∷ 0 ∷ []) (refused 1)
+    -- "Arity above 3, node count 0, or a running sum of nodes above 4,000.", with "the function of the first bad entry, node 0"
+    ∷ at-fault (2 ∷ 0 ∷ 1 ∷ 4 ∷ 1 ∷ []) (refusedAt 2 1 0)
+    ∷ at-fault (2 ∷ 0 ∷ 1 ∷ 0 ∷ 0 ∷ []) (refusedAt 2 1 0)
+    ∷ at-fault (2 ∷ 0 ∷ 4000 ∷ 0 ∷ 1 ∷ []) (refusedAt 2 1 0)
+    -- "Length not exact."
+    ∷ at-fault (1 ∷ 0 ∷ 4000 ∷ []) (refused 3)
+    ∷ at-fault (function 1 (0 ∷ 0 ∷ 0 ∷ 0 ∷ 0 ∷ [])) (refused 3)
+    -- "Unknown tag, operation or function; an unused word not 0"
+    ∷ at-fault (function 3 (2 ∷ 0 ∷ 2 ∷ 0 ∷ 0 ∷ 1 ∷ 0 ∷ 0 ∷ 7 ∷ 0 ∷ 0 ∷ 0 ∷ [])) (refusedAt 4 0 2)
+    ∷ at-fault (function 3 (2 ∷ 7 ∷ 2 ∷ 0 ∷ 0 ∷ 1 ∷ 0 ∷ 0 ∷ 0 ∷ 1 ∷ 0 ∷ 0 ∷ [])) (refusedAt 4 0 0)
+    ∷ at-fault (function 1 (5 ∷ 1 ∷ 0 ∷ 0 ∷ [])) (refusedAt 4 0 0)
+    ∷ at-fault (function 1 (0 ∷ 0 ∷ 0 ∷ 1 ∷ [])) (refusedAt 4 0 0)
+    -- "a child position that is wrong (told at the parent)"; a fault in the child before it is met first
+    ∷ at-fault (function 3 (2 ∷ 0 ∷ 1 ∷ 0 ∷ 0 ∷ 1 ∷ 0 ∷ 0 ∷ 0 ∷ 1 ∷ 0 ∷ 0 ∷ [])) (refusedAt 4 0 0)
+    ∷ at-fault (function 3 (2 ∷ 0 ∷ 1 ∷ 0 ∷ 1 ∷ 0 ∷ 0 ∷ 0 ∷ 0 ∷ 1 ∷ 0 ∷ 0 ∷ [])) (refusedAt 5 0 1)
+    -- "a body that ends early or runs on (told at that position)"
+    ∷ at-fault (function 1 (2 ∷ 0 ∷ 2 ∷ 0 ∷ [])) (refusedAt 4 0 1)
+    ∷ at-fault (function 2 (0 ∷ 1 ∷ 0 ∷ 0 ∷ 0 ∷ 1 ∷ 0 ∷ 0 ∷ [])) (refusedAt 4 0 1)
+    -- "A slot not bound"; "at the same place the lowest number"; the second child of a let has one more
+    ∷ at-fault (function 1 (1 ∷ 0 ∷ 0 ∷ 0 ∷ [])) (refusedAt 5 0 0)
+    ∷ at-fault (function 1 (1 ∷ 0 ∷ 1 ∷ 0 ∷ [])) (refusedAt 4 0 0)
+    ∷ at-fault (function 3 (4 ∷ 0 ∷ 2 ∷ 0 ∷ 0 ∷ 1 ∷ 0 ∷ 0 ∷ 1 ∷ 1 ∷ 0 ∷ 0 ∷ [])) (refusedAt 5 0 2)
+    -- "Level above 64.": the lets are levels 1 to 64
+    ∷ at-fault (function 65 (lets 64)) (refusedAt 6 0 64)
+    -- 7 to 11, each with the faults of the higher numbers
+    ∷ at-fault tableA (refused 7)
+    ∷ row sequentialOf tableA [] 0 0 0 0 (refused 8)
+    ∷ row sequentialOf tableA [] 100000001 0 0 0 (refused 8)
+    ∷ row sequentialOf tableA [] 100000000 0 0 0 (refused 9)
+    ∷ row sequentialOf tableA [] 100 10001 0 0 (refused 9)
+    ∷ row sequentialOf tableA [] 100 10000 0 0 (refused 10)
+    ∷ row sequentialOf tableA [] 100 3 10001 0 (refused 10)
+    ∷ row sequentialOf tableA [] 100 3 10000 0 (refused 11)
+    ∷ row sequentialOf tableA [] 100 3 2 4097 (refused 11)
+    ∷ []
+
+abbrev pub RefusalExampleRuns : Type 0
+RefusalExampleRuns = answered refusalExamples ≡ told refusalExamples
