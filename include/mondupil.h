@@ -35,7 +35,19 @@ enum {
  *
  * Every input is allowed: what is out of range is refused by number (1 to 11). What the caller must see to is C's own: each pointer is
  * not null, even where its length is 0, is aligned and has so many words behind it, and `workspace` and `answer` overlap nothing else.
- * A workspace has 32 words for each frame, and 1 to 4,096 frames. */
+ * A workspace has 32 words for each frame, and 1 to 4,096 frames.
+ *
+ * A stop's number is 20 to 24, its function and node are in the table, and its transitions are at most the fuel, and exactly the fuel for
+ * 20.
+ *
+ * Three calls, one of each machine, with the same table, arguments, fuel, period, tau and workspace length, in any order and whatever the
+ * workspaces hold: if the sequential machine's answer is a value, then the two others' are the same value, and
+ *
+ *     period * heartbeat work <= (period + tau) * sequential work
+ *     tau * heartbeat span <= (period + tau) * parallel span
+ *     heartbeat work + 2 * heartbeat forks == sequential work + tau * heartbeat forks
+ *
+ * as whole numbers, with the words of the three answers. */
 uint32_t mondupil_run(uint32_t machine,
                       const uint32_t *table, size_t table_len,
                       const uint64_t *args, size_t args_len,

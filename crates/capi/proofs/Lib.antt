@@ -1,2 +1,3 @@
 -- What the proofs of the functions use.
 mod Serving
+pub mod Claims

@@ -38,23 +38,24 @@ unfoldable pub refusalLine : Refusal → List ℕ
 refusalLine r =
     tagged "refused " (r .number) ++ (tagged " function " (r .function) ++ (tagged " node " (r .node) ++ newline))
 
--- "sequential value 4 work 11 span 11 forks 0", after the machine's name
+-- `value 4 work 11 span 11 forks 0`, after the machine's name
 unfoldable pub valueLine : ℕ → Counts → List ℕ
 valueLine v counts =
-    tagged " value " v
+    tagged "value " v
     ++ (tagged " work " (counts .work .0)
     ++ (tagged " span " (counts .span .0)
     ++ (tagged " forks " (counts .forks) ++ newline)))
 
--- "sequential stop 20 function 0 node 6 transitions 10", after the machine's name
+-- `stop 20 function 0 node 6 transitions 10`, after the machine's name
 unfoldable pub stopLine : Stop → List ℕ
 stopLine s =
-    tagged " stop " (s .number)
+    tagged "stop " (s .number)
     ++ (tagged " function " (s .function)
     ++ (tagged " node " (s .node)
     ++ (tagged " transitions " (s .transitions) ++ newline)))
 
--- what follows a machine's name; no report has the last of these, since its first machine is refused then, too
+-- what follows a machine's name, in the words of its case. No report has a refusal here: its first machine is refused then, too, and its
+-- one line is the refusal's
 unfoldable pub answerLine : Answer → List ℕ
 answerLine (Value v counts) = valueLine v counts
 answerLine (Stopped s) = stopLine s
@@ -70,9 +71,9 @@ breadthLine (Refused r) = ascii "breadth none\n"
 -- "The lines of the three machines show what those answered, unchanged."
 abbrev pub machineLines : Answer → Answer → Answer → List ℕ
 machineLines sequential parallel heartbeat =
-    (ascii "sequential" ++ answerLine sequential)
-    ++ ((ascii "parallel" ++ answerLine parallel)
-    ++ ((ascii "heartbeat" ++ answerLine heartbeat) ++ breadthLine parallel))
+    (ascii "sequential " ++ answerLine sequential)
+    ++ ((ascii "parallel " ++ answerLine parallel)
+    ++ ((ascii "heartbeat " ++ answerLine heartbeat) ++ breadthLine parallel))
 
 -- THE REPORT of three answers. "A refusal prints one line", and it tells all three: they refuse alike (crate language, `RefusedAlike`)
 unfoldable pub reportLines : Answer → Answer → Answer → List ℕ

@@ -47,13 +47,13 @@ pub fn refusal_line(out: &mut [u8], at: usize, refusal: Refusal) -> usize
 }
 
 fn value_line(out: &mut [u8], at: usize, v: u64, counts: Counts) -> usize
-    requires { ⌜ (at + 107 ≤ length (now out)) ⌝ }
+    requires { ⌜ (at + 106 ≤ length (now out)) ⌝ }
     ensures wrote { λ r. ⌜ Wrote (now (out .entry)) at (valueLine v counts) (now (out .exit)) r ⌝ }
-    ensures short { λ r. ⌜ r ≤ at + 107 ⌝ }
+    ensures short { λ r. ⌜ r ≤ at + 106 ⌝ }
 {
     let work = counts.work;
     let span = counts.span;
-    let one = number(out, at, b" value ", v);
+    let one = number(out, at, b"value ", v);
     let two = number(out, one, b" work ", work.0);
     let three = number(out, two, b" span ", span.0);
     let four = number(out, three, b" forks ", counts.forks);
@@ -61,20 +61,20 @@ fn value_line(out: &mut [u8], at: usize, v: u64, counts: Counts) -> usize
 }
 
 fn stop_line(out: &mut [u8], at: usize, s: Stop) -> usize
-    requires { ⌜ (at + 116 ≤ length (now out)) ⌝ }
+    requires { ⌜ (at + 115 ≤ length (now out)) ⌝ }
     ensures wrote { λ r. ⌜ Wrote (now (out .entry)) at (stopLine s) (now (out .exit)) r ⌝ }
-    ensures short { λ r. ⌜ r ≤ at + 116 ⌝ }
+    ensures short { λ r. ⌜ r ≤ at + 115 ⌝ }
 {
-    let one = number(out, at, b" stop ", s.number as u64);
+    let one = number(out, at, b"stop ", s.number as u64);
     let two = number(out, one, b" function ", s.function as u64);
     let three = number(out, two, b" node ", s.node as u64);
     let four = number(out, three, b" transitions ", s.transitions);
     put(out, four, b"\n")
 }
 
-// A machine's name and what it answered.
+// A machine's name, with a space after it, and what it answered.
 fn line(out: &mut [u8], at: usize, name: &[u8], answer: Answer) -> usize
-    requires { ⌜ (at + 126 ≤ length (now out)) × (length (now name) ≤ 10) ⌝ }
+    requires { ⌜ (at + 126 ≤ length (now out)) × (length (now name) ≤ 11) ⌝ }
     ensures wrote { λ r. ⌜ Wrote (now (out .entry)) at (now (name .entry) ++ answerLine answer) (now (out .exit)) r ⌝ }
     ensures short { λ r. ⌜ r ≤ at + 126 ⌝ }
 {
@@ -115,8 +115,8 @@ pub fn tell(out: &mut [u8], sequential: Answer, parallel: Answer, heartbeat: Ans
     if let Answer::Refused(r) = sequential {
         return refusal_line(out, 0, r);
     }
-    let one = line(out, 0, b"sequential", sequential);
-    let two = line(out, one, b"parallel", parallel);
-    let three = line(out, two, b"heartbeat", heartbeat);
+    let one = line(out, 0, b"sequential ", sequential);
+    let two = line(out, one, b"parallel ", parallel);
+    let three = line(out, two, b"heartbeat ", heartbeat);
     breadth_line(out, three, parallel)
 }
