@@ -66,7 +66,7 @@ module _ (m : Schedule) (w arguments : List ℕ) (fuel N τ workspace : ℕ) whe
       (e .0, e .1 .cost, e .1 .counts, ap (toldBy τ) (e .1 .is))
 
 -- a run answers no refusal
-ran-unrefused : {X : Type 0} (τ : ℕ) (o : machine.Outcome Graph X) (r : Refusal) → toldBy τ o ≡ Refused r → ⊥
+pub ran-unrefused : {X : Type 0} (τ : ℕ) (o : machine.Outcome Graph X) (r : Refusal) → toldBy τ o ≡ Refused r → ⊥
 unfolding toldBy
 ran-unrefused τ (ended (value v) g t) r e = let z : _≡_ {A = ℕ} 0 1 = cc in absurd (omega arith)
 ran-unrefused τ (ended (stop i p) g t) r e = let z : _≡_ {A = ℕ} 0 1 = cc in absurd (omega arith)

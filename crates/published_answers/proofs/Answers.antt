@@ -5,6 +5,7 @@ use mathlib.Core.Path.{_≡_, refl, ap, sym, _∙_}
 use mathlib.Core.List.{List}
 use native.Mathlib.Omega.{arith}
 use lib.ListN.{length}
+use Rattle.table.specs.declared.Refusal.{Refusal}
 use Rattle.table.specs.declared.Reading.{Reading}
 use Rattle.table.specs.declared.Reading.the-variants as reading
 use Rattle.schedule.specs.Graph.{Graph, work, span}
@@ -21,6 +22,7 @@ use Rattle.language.specs.declared.Answer.the-variants.{Value, Stopped, Refused
 use Rattle.language.specs.Language.{language}
 use Rattle.language.specs.Checks.{framesIn, checkedOf}
 use Rattle.language.specs.Answers.{entryCode, countsOf, stopped, toldBy, afterCheck, runOf, answerOf}
+use Rattle.language.proofs.Told.{ran-unrefused}
 use Rattle.language.proofs.Stops.{stop-of}
 use Rattle.published.specs.CostGraph.{work-of, span-of, fork-count, flat}
 use Rattle.published.specs.Adequacy.{Judgment, Reaches, Told}
@@ -137,12 +139,18 @@ module _ (m : Schedule) (w arguments : List ℕ) (fuel N τ workspace : ℕ) whe
   stop-from-check s reading.Accepted e q = (e, stop-from-run m w arguments fuel τ workspace s _ refl q)
   stop-from-check s (reading.Refused r) e q = let no : _≡_ {A = ℕ} 0 1 = cc in absurd (omega arith)
 
+  refused-by-check : (f : Refusal) (r : Reading) → afterCheck r ran-by ≡ Refused f → r ≡ reading.Refused f
+  unfolding afterCheck runOf
+  refused-by-check f reading.Accepted q = absurd (ran-unrefused τ (outcome graphs (language w) fuel (framesIn workspace) m (entryCode arguments)) f q)
+  refused-by-check f (reading.Refused r) q = let e : r ≡ f = cc in ap reading.Refused e
+
   pub by-schedule : Published m w arguments fuel N τ workspace (answerOf m w arguments fuel N τ workspace)
   unfolding answerOf afterCheck runOf
   by-schedule = record {
     value-iff = λ v k. (λ e. from-check v k _ refl e, λ c. rw (c .0) (to-run m w arguments fuel τ workspace v k (c .1)));
     stop-iff = λ s. (λ e. stop-from-check s _ refl e, λ c. rw (c .0) (stop-to-run m w arguments fuel τ workspace s (c .1)));
     stop-none = λ s e. none-checked s _ refl e;
+    refusal-iff = λ f. (λ e. refused-by-check f _ e, λ c. rw c refl);
   }
 
 pub demand-2 : DemandTwo

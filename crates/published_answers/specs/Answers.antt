@@ -1,19 +1,21 @@
--- DEMAND 2, as a reader of document 004 can check it. Each machine answers a value iff it accepts its input and the figure's judgment derives that
--- value within the fuel and the frames of the workspace; the counts in the answer are those of the derivation and of its cost graph. It answers a stop
--- iff it accepts its input and the rules of stops beside that figure derive its number, its place and its transitions; and where it answers a stop, the
--- judgment derives nothing within them. Judgments and stops are in crate `published`, specs/Judgments.antt and specs/Stops.antt, rule by rule.
+-- DEMAND 2, as a reader of document 004 can check it: all of an answer, by its three cases. Each machine answers a value iff it accepts its input and the
+-- figure's judgment derives that value within the fuel and the frames of the workspace; the counts in the answer are those of the derivation and of its
+-- cost graph. It answers a stop iff it accepts its input and the rules of stops beside that figure derive its number, its place and its transitions; and
+-- where it answers a stop, the judgment derives nothing within them. It answers a refusal iff the check gives it. Judgments and stops are in crate
+-- `published`, specs/Judgments.antt and specs/Stops.antt, rule by rule.
 use Prim.Native.Nat.{ℕ}
 use mathlib.Core.Path.{_≡_}
 use mathlib.Core.List.{List}
 use mathlib.Core.Logic.{_↔_}
 use lib.ListN.{length}
+use Rattle.table.specs.declared.Refusal.{Refusal}
 use Rattle.table.specs.declared.Reading.the-variants as reading
 use Rattle.schedule.specs.FrameMachine.{Place}
 use Rattle.schedule.specs.Machine.{Schedule, sequential, parallel, heartbeat}
 use Rattle.language.specs.declared.Counts.{Counts}
 use Rattle.language.specs.declared.Stop.{Stop}
 use Rattle.language.specs.declared.Answer.{Answer}
-use Rattle.language.specs.declared.Answer.the-variants.{Value, Stopped}
+use Rattle.language.specs.declared.Answer.the-variants.{Value, Stopped, Refused}
 use Rattle.language.specs.Language.{language}
 use Rattle.language.specs.Checks.{framesIn, checkedOf}
 use Rattle.language.specs.Answers.{entryCode, countsOf, sequentialOf, parallelOf, heartbeatOf}
@@ -47,6 +49,7 @@ pub record Published (m : Schedule) (w arguments : List ℕ) (fuel N τ workspac
       → (r ≡ Stopped s) ↔ ((checkedOf w (length arguments) fuel N τ workspace ≡ reading.Accepted)
       × stops-judged m w arguments fuel (framesIn workspace) s)
   pub stop-none : (s : Stop) → r ≡ Stopped s → (v : ℕ) → Reaches (judged m w arguments) fuel (framesIn workspace) v → ⊥
+  pub refusal-iff : (f : Refusal) → (r ≡ Refused f) ↔ (checkedOf w (length arguments) fuel N τ workspace ≡ reading.Refused f)
 
 pub record AllPublished (w arguments : List ℕ) (fuel N τ workspace : ℕ) : Type 0 where
   pub figure-4 : Published sequential w arguments fuel N τ workspace (sequentialOf w arguments fuel N τ workspace)
