@@ -26,6 +26,7 @@ use Rattle.language.specs.Checks.{framesIn, checkedOf}
 use Rattle.language.specs.Admitted.{Admitted}
 use Rattle.language.specs.Answers.{toldBy, afterCheck, runOf, answerOf, sequentialOf, parallelOf, heartbeatOf}
 use Rattle.language.proofs.Told.{answer-refused, answer-run}
+use Rattle.language.proofs.Stops.{listed-of}
 use Rattle.language.proofs.Claim.{claim-of}
 use Rattle.moves.specs.declared.Plan.{Plan}
 use Rattle.machine.specs.declared.Answers.{Answers}
@@ -122,5 +123,8 @@ module _ (w arguments : List ℕ) (fuel N τ : ℕ) (ws ws₁ ws₂ ws₃ : List
         parallel = fp;
         heartbeat = fh;
         workspace = b₃ ∙ sym a₁;
+        sequential-stop = listed-of sequential w arguments fuel N τ (length ws) s es;
+        parallel-stop = listed-of parallel w arguments fuel N τ (length ws) p fp;
+        heartbeat-stop = listed-of (heartbeat N) w arguments fuel N τ (length ws) h fh;
         demand-3 = claim-of w arguments fuel N τ (length ws) s p h es fp fh;
       }

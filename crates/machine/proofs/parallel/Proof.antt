@@ -1,5 +1,6 @@
--- `machine::parallel` meets its contract: the flags are the parallel schedule's. Assumes nothing.
+-- `machine::parallel` meets its contract: the flags are the parallel schedule's, and its stops are listed (`listed-of`). Assumes nothing.
 use Rattle.schedule.specs.Machine.{parallel}
+use Rattle.language.proofs.Stops.{listed-of}
 use Rattle.machine.proofs.Machines.{parallel-suits}
 use borrow.Author.Needs.{needs}
 use Rattle.machine.proofs.parallel.Statement.{statement}
@@ -12,7 +13,7 @@ same-length : tie.Need-same-length
 same-length c = search needs
 
 returns : tie.Need-returns
-returns c = (c .before .before .machine .ensures .0 parallel (parallel-suits _), c .before .before .machine .ensures .1)
+returns c = let e = c .before .before .machine .ensures .0 parallel (parallel-suits _) in (e, (c .before .before .machine .ensures .1, listed-of parallel _ _ _ _ _ _ _ e))
 
 pub parallel-spec : {M : Type 1} → statement M
 parallel-spec = tie.close (tie.spec machine-requires same-length returns)

@@ -1,5 +1,6 @@
--- `machine::sequential` meets its contract: the flags are the sequential schedule's. Assumes nothing.
+-- `machine::sequential` meets its contract: the flags are the sequential schedule's, and its stops are listed (`listed-of`). Assumes nothing.
 use Rattle.schedule.specs.Machine.{sequential}
+use Rattle.language.proofs.Stops.{listed-of}
 use Rattle.machine.proofs.Machines.{sequential-suits}
 use borrow.Author.Needs.{needs}
 use Rattle.machine.proofs.sequential.Statement.{statement}
@@ -12,7 +13,7 @@ same-length : tie.Need-same-length
 same-length c = search needs
 
 returns : tie.Need-returns
-returns c = (c .before .before .machine .ensures .0 sequential (sequential-suits _), c .before .before .machine .ensures .1)
+returns c = let e = c .before .before .machine .ensures .0 sequential (sequential-suits _) in (e, (c .before .before .machine .ensures .1, listed-of sequential _ _ _ _ _ _ _ e))
 
 pub sequential-spec : {M : Type 1} → statement M
 sequential-spec = tie.close (tie.spec machine-requires same-length returns)
