@@ -2,10 +2,8 @@
 --     copied            the copied arguments are the first locals
 --     few               there is room for them
 --     ran-with          so that the run is that of the arguments
---     limits            what the check assures of the settings
 --     tells-run         an accepted input's answer is that of its run
 --     tells-refusal     a refused one's is the refusal
---     sequential-suits, parallel-suits, heartbeat-suits     the flags of the three
 --     left-length, all-three     one workspace for all three
 use Prim.Native.Nat.{ℕ, _+_, _≤_}
 use mathlib.Core.Path.{_≡_, refl, sym, ap, _∙_}
@@ -47,30 +45,17 @@ few w arguments ws plan a = omega (arith, a .count, a .table .contents .entries 
 pub ran-with : (w from arguments : List ℕ) (size : ℕ) (plan : Plan) (r : Answer) → from ≡ arguments → Ran w from size plan r → Ran w arguments size plan r
 ran-with w from arguments size plan r e h = rw e at h
 
-pub limits : (w : List ℕ) (count N : ℕ) (ws : List ℕ) (plan : Plan) → Admitted w count (plan .fuel .0) N (plan .tau) (length ws) → Limits ws plan
-limits w count N ws plan a = record { fuel = a .fuel .most; tau = a .tau .most; frames = a .frames .most }
+-- `asked` are the words of the workspace that the check was told of
+module _ (w arguments : List ℕ) (fuel N τ size asked : ℕ) where
+  pub tells-run : checkedOf w (length arguments) fuel N τ asked ≡ reading.Accepted → Admitted w (length arguments) fuel N τ asked → asked ≡ size
+      → (plan : Plan) (r : Answer) → Ran w arguments size plan r → plan .fuel .0 ≡ fuel → plan .tau ≡ τ
+      → Tells w arguments fuel N τ size (plan .birth) (plan .period) r
+  tells-run e a same plan r ran f t m h =
+      (rw (f, t) at (ran .answers m (rw f (h (a .fuel .most))))) ∙ answer-run m w arguments fuel N τ size (rw same at e)
 
-module _ (w arguments : List ℕ) (N size : ℕ) where
-  pub tells-run : (plan : Plan) (r : Answer) → checkedOf w (length arguments) (plan .fuel .0) N (plan .tau) size ≡ reading.Accepted
-      → Admitted w (length arguments) (plan .fuel .0) N (plan .tau) size → Ran w arguments size plan r
-      → Tells w arguments (plan .fuel .0) N (plan .tau) size (plan .birth) (plan .period) r
-  tells-run plan r e a ran = λ m h. ran .answers m (h (a .fuel .most)) ∙ answer-run m w arguments (plan .fuel .0) N (plan .tau) size e
-
-  pub tells-refusal : (fuel τ : ℕ) (birth : Bool) (pace : ℕ) (f : Refusal) → checkedOf w (length arguments) fuel N τ size ≡ reading.Refused f
-      → Tells w arguments fuel N τ size birth pace (Refused f)
-  tells-refusal fuel τ birth pace f e = λ m h. answer-refused m w arguments fuel N τ size f e
-
-pub sequential-suits : (fuel : ℕ) → Suits fuel sequential false 18446744073709551615
-unfolding Flags
-sequential-suits fuel h = (refl, omega arith)
-
-pub parallel-suits : (fuel : ℕ) → Suits fuel parallel true 18446744073709551615
-unfolding Flags
-parallel-suits fuel h = (refl, omega arith)
-
-pub heartbeat-suits : (fuel N : ℕ) → Suits fuel (heartbeat N) false N
-unfolding Flags
-heartbeat-suits fuel N h = (refl, refl)
+  pub tells-refusal : (f : Refusal) → checkedOf w (length arguments) fuel N τ asked ≡ reading.Refused f → asked ≡ size
+      → (birth : Bool) (pace : ℕ) → Tells w arguments fuel N τ size birth pace (Refused f)
+  tells-refusal f e same birth pace m h = answer-refused m w arguments fuel N τ size f (rw same at e)
 
 -- ONE WORKSPACE: by what the check says
 unfoldable leftAfter : Reading → List ℕ → List ℕ

@@ -1,7 +1,9 @@
 -- `machine::parallel` meets its contract: the flags are the parallel schedule's, and its stops are listed (`listed-of`). Assumes nothing.
+use mathlib.Core.Path.{refl}
+use native.Mathlib.Omega.{arith}
 use Rattle.schedule.specs.Machine.{parallel}
+use Rattle.schedule.specs.Bounds.{Flags}
 use Rattle.language.proofs.Stops.{listed-of}
-use Rattle.machine.proofs.Machines.{parallel-suits}
 use borrow.Author.Needs.{needs}
 use Rattle.machine.proofs.parallel.Statement.{statement}
 use Rattle.machine.proofs.parallel.Tie as tie
@@ -13,7 +15,8 @@ same-length : tie.Need-same-length
 same-length c = search needs
 
 returns : tie.Need-returns
-returns c = let e = c .before .before .machine .ensures .0 parallel (parallel-suits _) in (e, (c .before .before .machine .ensures .1, listed-of parallel _ _ _ _ _ _ _ e))
+unfolding Flags
+returns c = let e = c .before .before .machine .ensures .0 parallel (λ h. (refl, omega arith)) in (e, (c .before .before .machine .ensures .1, listed-of parallel _ _ _ _ _ _ _ e))
 
 pub parallel-spec : {M : Type 1} → statement M
 parallel-spec = tie.close (tie.spec machine-requires same-length returns)
