@@ -2,6 +2,7 @@
 --     copied            the copied arguments are the first locals
 --     few               there is room for them
 --     ran-with          so that the run is that of the arguments
+--     zeroed            words that are cleared after a run are what its answer leaves
 --     tells-run         an accepted input's answer is that of its run
 --     tells-refusal     a refused one's is the refusal
 --     left-length, all-three     one workspace for all three
@@ -44,6 +45,9 @@ few w arguments ws plan a = omega (arith, a .count, a .table .contents .entries 
 
 pub ran-with : (w from arguments : List ℕ) (size : ℕ) (plan : Plan) (r : Answer) → from ≡ arguments → Ran w from size plan r → Ran w arguments size plan r
 ran-with w from arguments size plan r e h = rw e at h
+
+pub zeroed : (ws ws′ : List ℕ) (n : ℕ) (r : Answer) → ws′ ≡ replicate n 0 → n ≡ length ws → leftBy r ws ≡ replicate (length ws) 0 → ws′ ≡ leftBy r ws
+zeroed ws ws′ n r e l left = e ∙ ap (λ (k : ℕ). replicate k 0) l ∙ sym left
 
 -- `asked` are the words of the workspace that the check was told of
 module _ (w arguments : List ℕ) (fuel N τ size asked : ℕ) where
