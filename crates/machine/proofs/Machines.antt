@@ -8,30 +8,27 @@
 --     left-length, all-three     one workspace for all three
 use Prim.Native.Nat.{ℕ, _+_, _≤_}
 use mathlib.Core.Path.{_≡_, refl, sym, ap, _∙_}
-use mathlib.Core.Bool.{Bool, true, false}
+use mathlib.Core.Bool.{Bool}
 use mathlib.Core.List.{List}
 use native.Mathlib.Omega.{arith}
 use lib.ListN.{length, take, drop, replicate, length-replicate}
 use lib.Seq.{paste, take-paste, take-all}
 use Rattle.schedule.specs.Graph.{Graph}
 use Rattle.schedule.specs.Machine.{Schedule, sequential, parallel, heartbeat, Outcome, ended, ongoing, value, stop}
-use Rattle.schedule.specs.Bounds.{Flags}
 use Rattle.table.specs.declared.Refusal.{Refusal}
 use Rattle.table.specs.declared.Reading.{Reading}
 use Rattle.table.specs.declared.Reading.the-variants as reading
 use Rattle.language.specs.declared.Answer.{Answer}
 use Rattle.language.specs.declared.Answer.the-variants.{Value, Stopped, Refused}
-use Rattle.language.specs.Checks.{framesIn, checkedOf}
+use Rattle.language.specs.Checks.{checkedOf}
 use Rattle.language.specs.Admitted.{Admitted}
 use Rattle.language.specs.Answers.{toldBy, afterCheck, runOf, answerOf, sequentialOf, parallelOf, heartbeatOf}
 use Rattle.language.proofs.Told.{answer-refused, answer-run}
 use Rattle.language.proofs.Stops.{listed-of}
 use Rattle.language.proofs.Claim.{claim-of}
 use Rattle.moves.specs.declared.Plan.{Plan}
-use Rattle.machine.specs.declared.Answers.{Answers}
-use Rattle.moves.specs.Ready.{Limits}
 use Rattle.machine.specs.Workspace.{leftBy}
-use Rattle.machine.specs.Runs.{Accepted, Ran, Suits, Tells}
+use Rattle.machine.specs.Runs.{Accepted, Ran, Tells}
 use Rattle.machine.specs.AllThree.{AllThree}
 
 pub copied : (before arguments after : List ℕ) → length arguments ≤ length before

@@ -16,7 +16,7 @@ same-length c = search needs
 
 returns : tie.Need-returns
 unfolding Flags
-returns c = let e = c .before .before .machine .ensures .0 sequential (λ h. (refl, omega arith)) in (e, (c .before .before .machine .ensures .1, listed-of sequential _ _ _ _ _ _ _ e))
+returns c = let e = c .before .before .machine .ensures .0 sequential (λ h. (refl, omega arith)) in (e, (c .before .before .machine .ensures .1, listed-of _ _ _ _ _ _ _ _ e))
 
 pub sequential-spec : {M : Type 1} → statement M
 sequential-spec = tie.close (tie.spec machine-requires same-length returns)
