@@ -38,7 +38,7 @@ use Rattle.language.specs.Language as language
 use Rattle.language.specs.Language.{Code, Frame, left-operand, right-operand, condition, binding, argument, place, frame-place, result, operated, next, gathered, arrive}
 use Rattle.language.specs.Checks.{framesIn, checkedOf}
 use Rattle.language.specs.Answers.{entryCode, toldBy, afterCheck, runOf, answerOf}
-use Rattle.language.specs.Stops.{Listed, StopsListed}
+use Rattle.language.specs.Stops.{Listed, StopListed, StopsListed}
 use Rattle.language.proofs.Admission.{checked-iff}
 
 -- A number of 01's list, at a node of the table.
@@ -271,3 +271,8 @@ module _ (m : Schedule) (w arguments : List ℕ) (fuel N τ workspace : ℕ) (s 
 pub stops-listed : StopsListed
 unfolding answerOf
 stops-listed m w arguments fuel N τ workspace s e = checked-so m w arguments fuel N τ workspace s _ refl e
+
+-- and so of any answer that is a machine's
+pub listed-of : (m : Schedule) (w arguments : List ℕ) (fuel N τ workspace : ℕ) (r : Answer) → r ≡ answerOf m w arguments fuel N τ workspace
+    → StopListed w fuel r
+listed-of m w arguments fuel N τ workspace r e s q = stops-listed m w arguments fuel N τ workspace s (sym e ∙ q)

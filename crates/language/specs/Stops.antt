@@ -6,6 +6,7 @@ use mathlib.Core.List.{List}
 use Rattle.table.specs.Words.{functions, nodesAt}
 use Rattle.schedule.specs.Machine.{Schedule}
 use Rattle.language.specs.declared.Stop.{Stop}
+use Rattle.language.specs.declared.Answer.{Answer}
 use Rattle.language.specs.declared.Answer.the-variants.{Stopped}
 use Rattle.language.specs.Answers.{answerOf}
 
@@ -18,8 +19,11 @@ pub record Listed (w : List ℕ) (fuel : ℕ) (s : Stop) : Type 0 where
   pub within-fuel : s .transitions ≤ fuel
   pub spent : s .number ≡ 20 → s .transitions ≡ fuel
 
+-- An answer that is a stop tells a listed one.
+abbrev pub StopListed : List ℕ → ℕ → Answer → Type 0
+StopListed w fuel r = (s : Stop) → r ≡ Stopped s → Listed w fuel s
+
 -- THEOREM (proofs/Stops.antt, `stops-listed`). The definitions tell 4 of a node or a frame that is in no accepted table, and 0 of a run that is unfinished:
 -- neither is ever answered.
 abbrev pub StopsListed : Type 0
-StopsListed = (m : Schedule) (w arguments : List ℕ) (fuel N τ workspace : ℕ) (s : Stop)
-    → answerOf m w arguments fuel N τ workspace ≡ Stopped s → Listed w fuel s
+StopsListed = (m : Schedule) (w arguments : List ℕ) (fuel N τ workspace : ℕ) → StopListed w fuel (answerOf m w arguments fuel N τ workspace)

@@ -2,36 +2,33 @@
 --     copied            the copied arguments are the first locals
 --     few               there is room for them
 --     ran-with          so that the run is that of the arguments
---     limits            what the check assures of the settings
+--     zeroed            words that are cleared after a run are what its answer leaves
 --     tells-run         an accepted input's answer is that of its run
 --     tells-refusal     a refused one's is the refusal
---     sequential-suits, parallel-suits, heartbeat-suits     the flags of the three
 --     left-length, all-three     one workspace for all three
 use Prim.Native.Nat.{ℕ, _+_, _≤_}
 use mathlib.Core.Path.{_≡_, refl, sym, ap, _∙_}
-use mathlib.Core.Bool.{Bool, true, false}
+use mathlib.Core.Bool.{Bool}
 use mathlib.Core.List.{List}
 use native.Mathlib.Omega.{arith}
 use lib.ListN.{length, take, drop, replicate, length-replicate}
 use lib.Seq.{paste, take-paste, take-all}
 use Rattle.schedule.specs.Graph.{Graph}
 use Rattle.schedule.specs.Machine.{Schedule, sequential, parallel, heartbeat, Outcome, ended, ongoing, value, stop}
-use Rattle.schedule.specs.Bounds.{Flags}
 use Rattle.table.specs.declared.Refusal.{Refusal}
 use Rattle.table.specs.declared.Reading.{Reading}
 use Rattle.table.specs.declared.Reading.the-variants as reading
 use Rattle.language.specs.declared.Answer.{Answer}
 use Rattle.language.specs.declared.Answer.the-variants.{Value, Stopped, Refused}
-use Rattle.language.specs.Checks.{framesIn, checkedOf}
+use Rattle.language.specs.Checks.{checkedOf}
 use Rattle.language.specs.Admitted.{Admitted}
 use Rattle.language.specs.Answers.{toldBy, afterCheck, runOf, answerOf, sequentialOf, parallelOf, heartbeatOf}
 use Rattle.language.proofs.Told.{answer-refused, answer-run}
+use Rattle.language.proofs.Stops.{listed-of}
 use Rattle.language.proofs.Claim.{claim-of}
 use Rattle.moves.specs.declared.Plan.{Plan}
-use Rattle.machine.specs.declared.Answers.{Answers}
-use Rattle.moves.specs.Ready.{Limits}
 use Rattle.machine.specs.Workspace.{leftBy}
-use Rattle.machine.specs.Runs.{Accepted, Ran, Suits, Tells}
+use Rattle.machine.specs.Runs.{Accepted, Ran, Tells}
 use Rattle.machine.specs.AllThree.{AllThree}
 
 pub copied : (before arguments after : List ℕ) → length arguments ≤ length before
@@ -46,30 +43,20 @@ few w arguments ws plan a = omega (arith, a .count, a .table .contents .entries 
 pub ran-with : (w from arguments : List ℕ) (size : ℕ) (plan : Plan) (r : Answer) → from ≡ arguments → Ran w from size plan r → Ran w arguments size plan r
 ran-with w from arguments size plan r e h = rw e at h
 
-pub limits : (w : List ℕ) (count N : ℕ) (ws : List ℕ) (plan : Plan) → Admitted w count (plan .fuel .0) N (plan .tau) (length ws) → Limits ws plan
-limits w count N ws plan a = record { fuel = a .fuel .most; tau = a .tau .most; frames = a .frames .most }
+pub zeroed : (ws ws′ : List ℕ) (n : ℕ) (r : Answer) → ws′ ≡ replicate n 0 → n ≡ length ws → leftBy r ws ≡ replicate (length ws) 0 → ws′ ≡ leftBy r ws
+zeroed ws ws′ n r e l left = e ∙ ap (λ (k : ℕ). replicate k 0) l ∙ sym left
 
-module _ (w arguments : List ℕ) (N size : ℕ) where
-  pub tells-run : (plan : Plan) (r : Answer) → checkedOf w (length arguments) (plan .fuel .0) N (plan .tau) size ≡ reading.Accepted
-      → Admitted w (length arguments) (plan .fuel .0) N (plan .tau) size → Ran w arguments size plan r
-      → Tells w arguments (plan .fuel .0) N (plan .tau) size (plan .birth) (plan .period) r
-  tells-run plan r e a ran = λ m h. ran .answers m (h (a .fuel .most)) ∙ answer-run m w arguments (plan .fuel .0) N (plan .tau) size e
+-- `asked` are the words of the workspace that the check was told of
+module _ (w arguments : List ℕ) (fuel N τ size asked : ℕ) where
+  pub tells-run : checkedOf w (length arguments) fuel N τ asked ≡ reading.Accepted → Admitted w (length arguments) fuel N τ asked → asked ≡ size
+      → (plan : Plan) (r : Answer) → Ran w arguments size plan r → plan .fuel .0 ≡ fuel → plan .tau ≡ τ
+      → Tells w arguments fuel N τ size (plan .birth) (plan .period) r
+  tells-run e a same plan r ran f t m h =
+      (rw (f, t) at (ran .answers m (rw f (h (a .fuel .most))))) ∙ answer-run m w arguments fuel N τ size (rw same at e)
 
-  pub tells-refusal : (fuel τ : ℕ) (birth : Bool) (pace : ℕ) (f : Refusal) → checkedOf w (length arguments) fuel N τ size ≡ reading.Refused f
-      → Tells w arguments fuel N τ size birth pace (Refused f)
-  tells-refusal fuel τ birth pace f e = λ m h. answer-refused m w arguments fuel N τ size f e
-
-pub sequential-suits : (fuel : ℕ) → Suits fuel sequential false 18446744073709551615
-unfolding Flags
-sequential-suits fuel h = (refl, omega arith)
-
-pub parallel-suits : (fuel : ℕ) → Suits fuel parallel true 18446744073709551615
-unfolding Flags
-parallel-suits fuel h = (refl, omega arith)
-
-pub heartbeat-suits : (fuel N : ℕ) → Suits fuel (heartbeat N) false N
-unfolding Flags
-heartbeat-suits fuel N h = (refl, refl)
+  pub tells-refusal : (f : Refusal) → checkedOf w (length arguments) fuel N τ asked ≡ reading.Refused f → asked ≡ size
+      → (birth : Bool) (pace : ℕ) → Tells w arguments fuel N τ size birth pace (Refused f)
+  tells-refusal f e same birth pace m h = answer-refused m w arguments fuel N τ size f (rw same at e)
 
 -- ONE WORKSPACE: by what the check says
 unfoldable leftAfter : Reading → List ℕ → List ℕ
@@ -122,5 +109,8 @@ module _ (w arguments : List ℕ) (fuel N τ : ℕ) (ws ws₁ ws₂ ws₃ : List
         parallel = fp;
         heartbeat = fh;
         workspace = b₃ ∙ sym a₁;
+        sequential-stop = listed-of sequential w arguments fuel N τ (length ws) s es;
+        parallel-stop = listed-of parallel w arguments fuel N τ (length ws) p fp;
+        heartbeat-stop = listed-of (heartbeat N) w arguments fuel N τ (length ws) h fh;
         demand-3 = claim-of w arguments fuel N τ (length ws) s p h es fp fh;
       }

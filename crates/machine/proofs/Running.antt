@@ -4,21 +4,20 @@
 --     running-less       a move makes the measure smaller
 --     running-next       and keeps the invariant
 --     running-ends       at the end the answer is the definition's
-use Prim.Native.Nat.{ℕ, zero, suc, _+_, _-_, _*_, _/_, _<_, _≤_, zero-le}
+use Prim.Native.Nat.{ℕ, _+_, _-_, _*_, _/_, _<_, _≤_, zero-le}
 use mathlib.Core.Path.{_≡_, refl, sym, ap, _∙_}
 use mathlib.Core.Logic.{_⊎_, inl, inr}
 use mathlib.Core.List.{List}
 use native.Mathlib.Omega.{arith}
 use lib.ListN.{length, take, replicate}
-use Rattle.schedule.specs.Algebra.{CostAlgebra, spans}
-use Rattle.schedule.specs.Machine.{Schedule, Result, ended, ongoing, step, start}
+use Rattle.schedule.specs.Algebra.{spans}
+use Rattle.schedule.specs.Machine.{Schedule, step, start}
 use Rattle.schedule.specs.Runs.{and-then, outcome}
 use Rattle.schedule.specs.Runs as schedule
 use Rattle.schedule.specs.Bounds.{step-by, Flags, measure-of, BoundedState, Advances}
 use Rattle.schedule.proofs.Bounds.{step-by-advances, start-bounded, start-measure, flags-are}
 use Rattle.schedule.proofs.Runs.{run-next}
-use Rattle.table.specs.Words.{arityAt, nodesAt}
-use Rattle.table.specs.WellFormed.{WellFormed}
+use Rattle.table.specs.Words.{nodesAt}
 use Rattle.language.specs.declared.Answer.{Answer}
 use Rattle.language.specs.Language.{language}
 use Rattle.language.specs.Answers.{entryCode, toldBySpans}
@@ -27,7 +26,7 @@ use Rattle.moves.specs.declared.Plan.{Plan}
 use Rattle.moves.specs.declared.Step.{Step}
 use Rattle.moves.specs.declared.Step.the-variants.{Go, Value, Halt}
 use Rattle.moves.specs.Layout.{stackOf, controlOf, stateOf, resultOf}
-use Rattle.moves.specs.Ready.{Held, Controlled, Limits, Ready, KeptBy, Advanced}
+use Rattle.moves.specs.Ready.{Held, Controlled, Ready, KeptBy, Advanced}
 use Rattle.machine.specs.Workspace.{leftBy}
 use Rattle.machine.specs.Runs.{begun, toldAt, Countable, Begins, Ran}
 

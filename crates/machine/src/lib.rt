@@ -22,6 +22,7 @@ ghost use Prim.Native.Nat.{_+_, _*_, _≤_};
 ghost use lib.ListN.{length, take};
 ghost use Rattle.table.specs.Read.{startsOf};
 ghost use Rattle.language.specs.Answers.{countsOf, stopped, sequentialOf, parallelOf, heartbeatOf};
+ghost use Rattle.language.specs.Stops.{StopListed};
 ghost use Rattle.machine.specs.Workspace.{leftBy};
 ghost use Rattle.machine.specs.Runs.{begun, toldAt, Countable, Accepted, Begins, Ran, Tells};
 ghost use Rattle.machine.specs.AllThree.{AllThree};
@@ -183,6 +184,7 @@ pub fn sequential(
 ) -> Answer
     ensures answer { λ r. ⌜ r ≡ sequentialOf (now (words .entry)) (now (arguments .entry)) (fuel .0) period tau (length (now (workspace .entry))) ⌝ }
     ensures leaves { λ r. ⌜ now (workspace .exit) ≡ leftBy r (now (workspace .entry)) ⌝ }
+    ensures listed { λ r. ⌜ StopListed (now (words .entry)) (fuel .0) r ⌝ }
 {
     let settings = Settings { fuel, period, tau };
     machine(words, arguments, settings, false, NEVER, workspace)
@@ -199,6 +201,7 @@ pub fn parallel(
 ) -> Answer
     ensures answer { λ r. ⌜ r ≡ parallelOf (now (words .entry)) (now (arguments .entry)) (fuel .0) period tau (length (now (workspace .entry))) ⌝ }
     ensures leaves { λ r. ⌜ now (workspace .exit) ≡ leftBy r (now (workspace .entry)) ⌝ }
+    ensures listed { λ r. ⌜ StopListed (now (words .entry)) (fuel .0) r ⌝ }
 {
     let settings = Settings { fuel, period, tau };
     machine(words, arguments, settings, true, NEVER, workspace)
@@ -215,6 +218,7 @@ pub fn heartbeat(
 ) -> Answer
     ensures answer { λ r. ⌜ r ≡ heartbeatOf (now (words .entry)) (now (arguments .entry)) (fuel .0) period tau (length (now (workspace .entry))) ⌝ }
     ensures leaves { λ r. ⌜ now (workspace .exit) ≡ leftBy r (now (workspace .entry)) ⌝ }
+    ensures listed { λ r. ⌜ StopListed (now (words .entry)) (fuel .0) r ⌝ }
 {
     let settings = Settings { fuel, period, tau };
     machine(words, arguments, settings, false, period, workspace)

@@ -1,6 +1,9 @@
--- `machine::heartbeat` meets its contract: the flags are the heartbeat's, with its own N. Assumes nothing.
+-- `machine::heartbeat` meets its contract: the flags are the heartbeat's, with its own N, and its stops are listed (`listed-of`). Assumes nothing.
+use mathlib.Core.Path.{refl}
+use native.Mathlib.Omega.{arith}
 use Rattle.schedule.specs.Machine.{heartbeat}
-use Rattle.machine.proofs.Machines.{heartbeat-suits}
+use Rattle.schedule.specs.Bounds.{Flags}
+use Rattle.language.proofs.Stops.{listed-of}
 use borrow.Author.Needs.{needs}
 use Rattle.machine.proofs.heartbeat.Statement.{statement}
 use Rattle.machine.proofs.heartbeat.Tie as tie
@@ -12,7 +15,8 @@ same-length : tie.Need-same-length
 same-length c = search needs
 
 returns : tie.Need-returns
-returns c = (c .before .before .machine .ensures .0 (heartbeat (c .before .before .before .before .before .before .before .args .period)) (heartbeat-suits _ _), c .before .before .machine .ensures .1)
+unfolding Flags
+returns c = let e = c .before .before .machine .ensures .0 (heartbeat (c .before .before .before .before .before .before .before .args .period)) (λ h. (refl, omega arith)) in (e, (c .before .before .machine .ensures .1, listed-of _ _ _ _ _ _ _ _ e))
 
 pub heartbeat-spec : {M : Type 1} → statement M
 heartbeat-spec = tie.close (tie.spec machine-requires same-length returns)

@@ -1,7 +1,8 @@
 -- `machine::machine` meets its contract: the check's answer decides between the run and the refusal (proofs/Machines.antt). Assumes nothing.
 use mathlib.Core.Path.{refl, sym, _∙_}
+use native.Mathlib.Omega.{arith}
 use Rattle.machine.specs.Workspace.{leftBy}
-use Rattle.machine.proofs.Machines.{limits, tells-run, tells-refusal}
+use Rattle.machine.proofs.Machines.{tells-run, tells-refusal}
 use borrow.Author.Needs.{needs}
 use Rattle.machine.proofs.machine.Statement.{statement}
 use Rattle.machine.proofs.machine.Tie as tie
@@ -13,7 +14,7 @@ enum-told : tie.Need-enum-told
 enum-told c = search needs
 
 launch-requires : tie.Need-launch-requires
-launch-requires c κs = let a = c .before .before .before .before .checked .ensures .1 .0 (c .before .enum-told .given .1) in record { table = a .table; count = a .arguments; limits = limits (c .before .before .before .before .before .before .before .before .args .words .now) _ _ _ _ a }
+launch-requires c κs = let a = c .before .before .before .before .checked .ensures .1 .0 (c .before .enum-told .given .1) in record { table = a .table; count = a .arguments; limits = record { fuel = omega arith; tau = omega arith; frames = omega arith } }
 
 enum-known-read : tie.Need-enum-known-read
 enum-known-read c = search needs
@@ -22,11 +23,11 @@ same-length : tie.Need-same-length
 same-length c = search needs
 
 returns : tie.Need-returns
-returns c = (tells-run (c .before .before .before .before .before .before .before .before .before .before .before .args .words .now) (c .before .before .before .before .before .before .before .before .before .before .before .args .arguments .now) _ _ _ _ (sym (c .before .before .before .before .before .before .before .checked .ensures .0) ∙ c .before .before .before .before .enum-told .given .1) (c .before .before .before .before .before .before .before .checked .ensures .1 .0 (c .before .before .before .before .enum-told .given .1)) (c .before .before .launch .ensures .0), c .before .before .launch .ensures .1)
+returns c = let a = c .before .before .before .before .before .before .before .checked .ensures .1 .0 (c .before .before .before .before .enum-told .given .1) in (tells-run (c .before .before .before .before .before .before .before .before .before .before .before .args .words .now) (c .before .before .before .before .before .before .before .before .before .before .before .args .arguments .now) _ _ _ _ _ (sym (c .before .before .before .before .before .before .before .checked .ensures .0) ∙ c .before .before .before .before .enum-told .given .1) a (omega arith) _ _ (c .before .before .launch .ensures .0) (omega arith) (omega arith), c .before .before .launch .ensures .1)
 
 returns-2 : tie.Need-returns-2
 unfolding leftBy
-returns-2 c = (tells-refusal (c .before .before .before .before .before .before .before .before .args .words .now) (c .before .before .before .before .before .before .before .before .args .arguments .now) _ _ _ _ _ _ _ (sym (c .before .before .before .before .checked .ensures .0) ∙ c .before .read .given .1), refl)
+returns-2 c = (tells-refusal (c .before .before .before .before .before .before .before .before .args .words .now) (c .before .before .before .before .before .before .before .before .args .arguments .now) _ _ _ _ _ _ (sym (c .before .before .before .before .checked .ensures .0) ∙ c .before .read .given .1) (omega arith) _ _, refl)
 
 pub machine-spec : {M : Type 1} → statement M
 machine-spec =

@@ -1,6 +1,9 @@
--- `machine::parallel` meets its contract: the flags are the parallel schedule's. Assumes nothing.
+-- `machine::parallel` meets its contract: the flags are the parallel schedule's, and its stops are listed (`listed-of`). Assumes nothing.
+use mathlib.Core.Path.{refl}
+use native.Mathlib.Omega.{arith}
 use Rattle.schedule.specs.Machine.{parallel}
-use Rattle.machine.proofs.Machines.{parallel-suits}
+use Rattle.schedule.specs.Bounds.{Flags}
+use Rattle.language.proofs.Stops.{listed-of}
 use borrow.Author.Needs.{needs}
 use Rattle.machine.proofs.parallel.Statement.{statement}
 use Rattle.machine.proofs.parallel.Tie as tie
@@ -12,7 +15,8 @@ same-length : tie.Need-same-length
 same-length c = search needs
 
 returns : tie.Need-returns
-returns c = (c .before .before .machine .ensures .0 parallel (parallel-suits _), c .before .before .machine .ensures .1)
+unfolding Flags
+returns c = let e = c .before .before .machine .ensures .0 parallel (λ h. (refl, omega arith)) in (e, (c .before .before .machine .ensures .1, listed-of _ _ _ _ _ _ _ _ e))
 
 pub parallel-spec : {M : Type 1} → statement M
 parallel-spec = tie.close (tie.spec machine-requires same-length returns)

@@ -1,9 +1,7 @@
 -- `machine::run` meets its contract: the copied arguments are the first locals, and the words are cleared at the end (proofs/Machines.antt). Assumes nothing.
-use lib.ListN.{replicate}
-use Prim.Native.Nat.{ℕ}
 use native.Mathlib.Omega.{arith}
-use mathlib.Core.Path.{sym, ap, _∙_}
-use Rattle.machine.proofs.Machines.{copied, few, ran-with}
+use mathlib.Core.Path.{_∙_}
+use Rattle.machine.proofs.Machines.{copied, few, ran-with, zeroed}
 use borrow.Author.Needs.{needs}
 use Rattle.machine.proofs.run.Statement.{statement}
 use Rattle.machine.proofs.run.Tie as tie
@@ -26,7 +24,7 @@ same-length-2 c = search needs
 returns : tie.Need-returns
 returns c = let room = few (c .before .before .before .before .before .before .before .before .before .before .before .before .before .before .before .before .before .before .before .before .args .words .now) (c .before .before .before .before .before .before .before .before .before .before .before .before .before .before .before .before .before .before .before .before .args .arguments .now) _ _ (c .before .before .before .before .before .before .before .before .before .before .before .before .before .before .before .before .before .before .before .before .pre .0) in (
   ran-with (c .before .before .before .before .before .before .before .before .before .before .before .before .before .before .before .before .before .before .before .before .args .words .now) _ (c .before .before .before .before .before .before .before .before .before .before .before .before .before .before .before .before .before .before .before .before .args .arguments .now) _ (c .before .before .before .before .before .before .before .before .before .before .before .before .before .before .before .before .before .before .before .before .args .plan) _ (copied (c .before .before .before .before .before .before .before .before .before .before .before .before .before .before .before .before .before .before .before .before .args .locals .now) (c .before .before .before .before .before .before .before .before .before .before .before .before .before .before .before .before .before .before .before .before .args .arguments .now) _ (omega (arith, c .before .before .before .before .before .before .before .before .before .before .before .before .before .before .before .before .before .before .before .before .pre .2)) (c .before .before .before .before .before .before .before .before .before .before .before .before .before .copy .ensures)) (c .before .before .before .before .before .before .before .before .drive .ensures),
-  c .before .before .clear .ensures ∙ ap (λ (n : ℕ). replicate n 0) (c .before .before .before .before .before .before .before .before .drive .kept .1 .1 .0) ∙ sym (c .before .before .before .before .before .before .before .before .drive .ensures .began (c .before .before .before .before .before .before .before .before .before .before .before .before .before .before .before .before .before .before .before .before .args .ws .now)),
+  zeroed (c .before .before .before .before .before .before .before .before .before .before .before .before .before .before .before .before .before .before .before .before .args .ws .now) _ _ _ (c .before .before .clear .ensures) (c .before .before .before .before .before .before .before .before .drive .kept .1 .1 .0) (c .before .before .before .before .before .before .before .before .drive .ensures .began _),
 )
 
 pub run-spec : {M : Type 1} → statement M

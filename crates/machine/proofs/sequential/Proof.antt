@@ -1,6 +1,9 @@
--- `machine::sequential` meets its contract: the flags are the sequential schedule's. Assumes nothing.
+-- `machine::sequential` meets its contract: the flags are the sequential schedule's, and its stops are listed (`listed-of`). Assumes nothing.
+use mathlib.Core.Path.{refl}
+use native.Mathlib.Omega.{arith}
 use Rattle.schedule.specs.Machine.{sequential}
-use Rattle.machine.proofs.Machines.{sequential-suits}
+use Rattle.schedule.specs.Bounds.{Flags}
+use Rattle.language.proofs.Stops.{listed-of}
 use borrow.Author.Needs.{needs}
 use Rattle.machine.proofs.sequential.Statement.{statement}
 use Rattle.machine.proofs.sequential.Tie as tie
@@ -12,7 +15,8 @@ same-length : tie.Need-same-length
 same-length c = search needs
 
 returns : tie.Need-returns
-returns c = (c .before .before .machine .ensures .0 sequential (sequential-suits _), c .before .before .machine .ensures .1)
+unfolding Flags
+returns c = let e = c .before .before .machine .ensures .0 sequential (λ h. (refl, omega arith)) in (e, (c .before .before .machine .ensures .1, listed-of _ _ _ _ _ _ _ _ e))
 
 pub sequential-spec : {M : Type 1} → statement M
 sequential-spec = tie.close (tie.spec machine-requires same-length returns)
