@@ -99,6 +99,20 @@ module _ {M : FrameMachine} where
       (by-promotion {older = Y} {n = n} refl (rw (le-leb N n q)) (cc) (of-hb d1) (of-hb d2) (recounted (of-hb d3) (omega arith) refl refl))
       refl (omega arith) (omega arith)
 
+  -- As `recounted`, of the credits.
+  module _ {N : ℕ} {c : Control (M .Code)} {S : PlainStack M} {n n' v : ℕ} {g : CostGraph} {k p : ℕ}
+      (r : Converted (Heartbeat M N c S n v g) (λ d. hb-transitions d) (λ d. hb-frames d) k p) (e : n ≡ n') where
+    unfoldable credited : Heartbeat M N c S n' v g
+    credited = (rw e at r) .derivation
+
+    credited-transitions : hb-transitions credited ≡ k
+    unfolding credited
+    credited-transitions = (rw e at r) .transitions
+
+    credited-frames : hb-frames credited ≡ p
+    unfolding credited
+    credited-frames = (rw e at r) .frames
+
   promoted : {N : ℕ} {c : Control (M .Code)} {b : M .Fork} {S newer older : PlainStack M} {n u w v : ℕ} {g1 g2 g3 : CostGraph}
       {k1 k2 k3 p1 p2 p3 : ℕ}
       → S ≡ newer ++ (awaiting-left b ∷ older) → N ≤ n → can-promote older ≡ false
@@ -110,9 +124,9 @@ module _ {M : FrameMachine} where
   unfolding hb-transitions hb-frames
   promoted {older = Y} s q o r1 r2 r3 =
       rw s (record {
-        derivation = hb-promote {older = Y} q (cc) (r1 .derivation) (r2 .derivation) (r3 .derivation);
-        transitions = omega arith;
-        frames = omega arith;
+        derivation = hb-promote {older = Y} q (cc) (r1 .derivation) (r2 .derivation) (credited r3 (omega arith));
+        transitions = simp credited-transitions (omega arith);
+        frames = simp credited-frames (omega arith);
       })
 
   pub to-hb : {N : ℕ} {c : Control (M .Code)} {S : PlainStack M} {n v : ℕ} {g : CostGraph} {k p : ℕ} → Eval M (heartbeat N) c S n v g k p
