@@ -259,11 +259,11 @@ module _ (m : Schedule) (w arguments : List ℕ) (fuel N τ workspace : ℕ) (s 
       (entryCode arguments) (enter w table 0 (omega (arith, table .contents .header .some))) i p g t e in
       let z : Listed w fuel (record { number = i; function = p .function; node = p .node; transitions = t .transitions }) = record {
         least = a .tells .least;
-        most = a .tells .most;
+        most = omega arith;
         function = a .tells .function;
         node = a .tells .node;
         within-fuel = a .within-fuel;
-        spent = a .spent;
+        spent = λ h. a .spent (omega arith);
       } in
       rw q at z
 

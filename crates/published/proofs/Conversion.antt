@@ -22,10 +22,10 @@ pub record Converted (D : Type 0) (made held : D → ℕ) (k p : ℕ) : Type 0 w
   pub transitions : made derivation ≡ k
   pub frames : held derivation ≡ p
 
--- Credits and resources are numbers: however they are written.
-recounted : {M : FrameMachine} {m : Schedule} {c : Control (M .Code)} {S : PlainStack M} {n n' v : ℕ} {g : CostGraph} {k k' p p' : ℕ}
-    → Eval M m c S n v g k p → n ≡ n' → k ≡ k' → p ≡ p' → Eval M m c S n' v g k' p'
-recounted e en ek ep = rw (en, ek, ep) at e
+-- A derivation with credits, a graph and resources that are equal, in whatever way a rule writes them.
+recounted : {M : FrameMachine} {m : Schedule} {c : Control (M .Code)} {S : PlainStack M} {n n' v : ℕ} {g g' : CostGraph} {k k' p p' : ℕ}
+    → Eval M m c S n v g k p → n ≡ n' → g ≡ g' → k ≡ k' → p ≡ p' → Eval M m c S n' v g' k' p'
+recounted e en eg ek ep = rw (en, eg, ek, ep) at e
 
 -- HBSTEP's premise is that no promotion is due.
 pub not-due : {A : Type 0} (N n : ℕ) (able : Bool) → (A → able ≡ false) → (n < N) ⊎ A → leb N n && able ≡ false
@@ -69,7 +69,8 @@ module _ {M : FrameMachine} where
   unfolding promotion-due promoted-at-birth par-transitions par-frames
   of-par n par-value = by-value
   of-par n (par-step f x d) = by-step refl f x (of-par (n + 1) d)
-  of-par n (par-fork h d1 d2 d3) = recounted (by-fork refl h (of-par 0 d1) (of-par 0 d2) (of-par 0 d3)) refl (omega arith) (omega arith)
+  of-par n (par-fork h d1 d2 d3) =
+      recounted (by-fork refl h (of-par 0 d1) (of-par 0 d2) (of-par 0 d3)) refl (cc) (omega arith) (omega arith)
 
   pub to-par : {c : Control (M .Code)} {S : PlainStack M} {n v : ℕ} {g : CostGraph} {k p : ℕ} → Eval M parallel c S n v g k p
       → Converted (Parallel M c S v g) (λ d. par-transitions d) (λ d. par-frames d) k p
@@ -96,8 +97,8 @@ module _ {M : FrameMachine} where
   of-hb {N} (hb-step {S = S} {n = n} q x d) = by-step (not-due N n (can-promote S) (λ e. cc) q) refl x (of-hb d)
   of-hb {N} (hb-promote {older = Y} {n = n} q o d1 d2 d3) =
       recounted
-      (by-promotion {older = Y} {n = n} refl (rw (le-leb N n q)) (cc) (of-hb d1) (of-hb d2) (recounted (of-hb d3) (omega arith) refl refl))
-      refl (omega arith) (omega arith)
+      (by-promotion {older = Y} {n = n} refl (rw (le-leb N n q)) (cc) (of-hb d1) (of-hb d2) (recounted (of-hb d3) (omega arith) refl refl refl))
+      refl (cc) (omega arith) (omega arith)
 
   -- As `recounted`, of the credits.
   module _ {N : ℕ} {c : Control (M .Code)} {S : PlainStack M} {n n' v : ℕ} {g : CostGraph} {k p : ℕ}
