@@ -97,7 +97,7 @@ module _ {M : FrameMachine} where
   of-hb {N} (hb-step {S = S} {n = n} q x d) = by-step (not-due N n (can-promote S) (λ e. cc) q) refl x (of-hb d)
   of-hb {N} (hb-promote {older = Y} {n = n} q o d1 d2 d3) =
       recounted
-      (by-promotion {older = Y} {n = n} refl (rw (le-leb N n q)) (cc) (of-hb d1) (of-hb d2) (recounted (of-hb d3) (omega arith) refl refl refl))
+      (by-promotion {older = Y} {n = n} refl (rw (le-leb N n (omega arith))) (cc) (of-hb d1) (of-hb d2) (recounted (of-hb d3) (omega arith) refl refl refl))
       refl (cc) (omega arith) (omega arith)
 
   -- As `recounted`, of the credits.
@@ -123,9 +123,9 @@ module _ {M : FrameMachine} where
       → Converted (Heartbeat M N c S n v (g1 ∥ g2 · g3)) (λ d. hb-transitions d) (λ d. hb-frames d) (k1 + k2 + k3)
       (fork-frames (length older) p1 p2 p3)
   unfolding hb-transitions hb-frames
-  promoted {older = Y} s q o r1 r2 r3 =
+  promoted {older = Y} {n = n} s q o r1 r2 r3 =
       rw s (record {
-        derivation = hb-promote {older = Y} q (cc) (r1 .derivation) (r2 .derivation) (credited r3 (omega arith));
+        derivation = hb-promote {older = Y} {n = n} (omega arith) (cc) (r1 .derivation) (r2 .derivation) (credited r3 (omega arith));
         transitions = simp credited-transitions (omega arith);
         frames = simp credited-frames (omega arith);
       })

@@ -120,10 +120,10 @@ module _ {M : FrameMachine} where
   to-par-stop (in-right x e1 a h1) = par-right x (to-par e1) (to-par-stop a) h1
   to-par-stop (in-body x e1 e2 a h1 h2) = par-body x (to-par e1) (to-par e2) (to-par-stop a) h1 h2
 
-  due : {N n : ℕ} {c : Control (M .Code)} {newer : PlainStack M} (b : M .Fork) (older : PlainStack M) → N ≤ n → can-promote older ≡ false
+  due : {c : Control (M .Code)} {newer : PlainStack M} (N n : ℕ) (b : M .Fork) (older : PlainStack M) → N ≤ n → can-promote older ≡ false
       → Splits M (heartbeat N) c (newer ++ (awaiting-left b ∷ older)) n c newer b older
   unfolding promotion-due
-  due {N} {n} b older q o = at-promotion {n = n} refl (rw (le-leb N n q)) o
+  due N n b older q o = at-promotion {n = n} refl (rw (le-leb N n q)) o
 
   pub of-hb-stop : {N fuel frames : ℕ} {c : Control (M .Code)} {S : PlainStack M} {n i : ℕ} {p : Place} {k : ℕ}
       → HeartbeatStops M N fuel frames c S n i p k → Stops M (heartbeat N) fuel frames c S n i p k
@@ -132,11 +132,11 @@ module _ {M : FrameMachine} where
   of-hb-stop {N} (hb-stops-later {S = S} {n = n} q x l d) =
       at-limits (after-step (not-due N n (can-promote S) (λ e. cc) q) refl x (of-hb-stop d) (omega arith)) (omega arith) (omega arith)
       (omega arith)
-  of-hb-stop (hb-stops-left b Y q o d) = at-limits (in-left (due b Y q o) (of-hb-stop d)) (omega arith) (omega arith) (omega arith)
-  of-hb-stop (hb-stops-right b Y q o d1 h1 d) =
-      at-limits (in-right (due b Y q o) (of-hb d1) (of-hb-stop d) (omega arith)) (omega arith) (omega arith) (omega arith)
-  of-hb-stop (hb-stops-body b Y q o d1 h1 d2 h2 d) =
-      at-limits (in-body (due b Y q o) (of-hb d1) (of-hb d2) (of-hb-stop d) (omega arith) (omega arith)) (omega arith) (omega arith)
+  of-hb-stop {N} (hb-stops-left {n = n} b Y q o d) = at-limits (in-left (due N n b Y (omega arith) (cc)) (of-hb-stop d)) (omega arith) (omega arith) (omega arith)
+  of-hb-stop {N} (hb-stops-right {n = n} b Y q o d1 h1 d) =
+      at-limits (in-right (due N n b Y (omega arith) (cc)) (of-hb d1) (of-hb-stop d) (omega arith)) (omega arith) (omega arith) (omega arith)
+  of-hb-stop {N} (hb-stops-body {n = n} b Y q o d1 h1 d2 h2 d) =
+      at-limits (in-body (due N n b Y (omega arith) (cc)) (of-hb d1) (of-hb d2) (of-hb-stop d) (omega arith) (omega arith)) (omega arith) (omega arith)
       (omega arith)
 
   -- A promotion: the three ways to stop in it.
@@ -146,8 +146,9 @@ module _ {M : FrameMachine} where
   unfolding promotion-due promoted-at-birth
   hb-left (at-birth q h) a = absurd (true≢false (sym q))
   hb-left {N} {fuel} {free} {k = k} (at-promotion {b = b} {older = Y} {n = n} s q o) a =
+      let l = leb-true N n (and-true (leb N n) true q .0) in
       rw s (hb-limits
-      (hb-stops-left {fuel = fuel} {free = free} {k = k} b Y (leb-true N n (and-true (leb N n) true q .0)) o
+      (hb-stops-left {fuel = fuel} {free = free} {n = n} {k = k} b Y (omega arith) (cc)
       (hb-limits a (omega arith) (omega arith) (omega arith)))
       (omega arith) (omega arith) (omega arith))
 
@@ -158,8 +159,9 @@ module _ {M : FrameMachine} where
   unfolding promotion-due promoted-at-birth
   hb-right (at-birth q h) r a h1 = absurd (true≢false (sym q))
   hb-right {N} {fuel} {free} {k = k} (at-promotion {b = b} {older = Y} {n = n} s q o) r a h1 =
+      let l = leb-true N n (and-true (leb N n) true q .0) in
       rw s (hb-limits
-      (hb-stops-right {fuel = fuel} {free = free} {k = k} b Y (leb-true N n (and-true (leb N n) true q .0)) o (r .derivation) (omega arith)
+      (hb-stops-right {fuel = fuel} {free = free} {n = n} {k = k} b Y (omega arith) (cc) (r .derivation) (omega arith)
       (hb-limits a (omega arith) (omega arith) (omega arith)))
       (omega arith) (omega arith) (omega arith))
 
@@ -171,8 +173,9 @@ module _ {M : FrameMachine} where
   unfolding promotion-due promoted-at-birth
   hb-body (at-birth q h) r r' a h1 h2 = absurd (true≢false (sym q))
   hb-body {N} {fuel} {frames} {k = k} (at-promotion {b = b} {older = Y} {n = n} s q o) r r' a h1 h2 =
+      let l = leb-true N n (and-true (leb N n) true q .0) in
       rw s (hb-limits
-      (hb-stops-body {fuel = fuel} {free = frames - (length Y + 1)} {k = k} b Y (leb-true N n (and-true (leb N n) true q .0)) o (r .derivation)
+      (hb-stops-body {fuel = fuel} {free = frames - (length Y + 1)} {n = n} {k = k} b Y (omega arith) (cc) (r .derivation)
       (omega arith) (r' .derivation) (omega arith) (hb-limits a (omega arith) (omega arith) (omega arith)))
       (omega arith) (omega arith) (omega arith))
 
