@@ -21,6 +21,7 @@ use Rattle.language.specs.declared.Answer.the-variants.{Value, Stopped, Refused
 use Rattle.language.specs.Language.{language}
 use Rattle.language.specs.Checks.{framesIn, checkedOf}
 use Rattle.language.specs.Answers.{entryCode, countsOf, stopped, toldBy, afterCheck, runOf, answerOf}
+use Rattle.language.proofs.Places.{same-place}
 use Rattle.language.proofs.Stops.{stop-of}
 use Rattle.published.specs.CostGraph.{work-of, span-of, fork-count, flat}
 use Rattle.published.specs.Adequacy.{Judgment, Reaches, Told}
@@ -43,9 +44,6 @@ same-counts a b c d = rw (a, b, c, d)
 same-stop : {i f n t : ℕ} (s : Stop) → i ≡ s .number → f ≡ s .function → n ≡ s .node → t ≡ s .transitions
     → stopped i (record { function = f; node = n }) t ≡ Stopped s
 same-stop s a b c d = rw (a, b, c, d)
-
-same-place : {f n f' n' : ℕ} → f ≡ f' → n ≡ n' → _≡_ {A = Place} (record { function = f; node = n }) (record { function = f'; node = n' })
-same-place a b = rw (a, b)
 
 at-frames : {J : Judgment} {fuel frames frames' τ v : ℕ} {k : Counts} → Counted J fuel frames τ v k → frames ≡ frames'
     → Counted J fuel frames' τ v k
