@@ -89,6 +89,12 @@ tells-at w i c a b s = record { least = a; most = b; function = s .function; nod
     inside : {level p k q : ℕ} → Subtree w (bodyAt w (c .function)) level p k q → p < nodesAt w (c .function)
     inside (root h z ch) = h
 
+-- And a place with the same numbers.
+spent-at : (w : List ℕ) (c : Code) {p : Place} → CodeOk w c → p .function ≡ c .function → p .node ≡ c .node → Tells w 20 p
+spent-at w c s f n =
+    let z = tells-at w 20 c (omega arith) (omega arith) s in
+    record { least = z .least; most = z .most; function = rw f (z .function); node = rw (f, n) (z .node) }
+
 -- An operation's stop is 22, 23 or 24.
 record Arithmetical (i : ℕ) : Type 0 where
   least : 22 ≤ i
@@ -209,17 +215,17 @@ module _ (w : List ℕ) (table : WellFormed w) where
   arrive-known (argument c vs) v t = gathered-known c t (vs ++ (v ∷ [])) (omega (arith, length-append vs (v ∷ [])))
 
   spent-known : (f : Frame) → FrameOk w f → Tells w 20 (frame-place f)
-  spent-known (left-operand c) t = tells-at w 20 c (omega arith) (omega arith) (t .stands)
-  spent-known (right-operand c x) t = tells-at w 20 c (omega arith) (omega arith) (t .stands)
-  spent-known (condition c) t = tells-at w 20 c (omega arith) (omega arith) (t .stands)
-  spent-known (binding c) t = tells-at w 20 c (omega arith) (omega arith) (t .stands)
-  spent-known (argument c vs) t = tells-at w 20 c (omega arith) (omega arith) (t .stands)
+  spent-known (left-operand c) t = spent-at w c (t .stands) (omega arith) (omega arith)
+  spent-known (right-operand c x) t = spent-at w c (t .stands) (omega arith) (omega arith)
+  spent-known (condition c) t = spent-at w c (t .stands) (omega arith) (omega arith)
+  spent-known (binding c) t = spent-at w c (t .stands) (omega arith) (omega arith)
+  spent-known (argument c vs) t = spent-at w c (t .stands) (omega arith) (omega arith)
 
   known : Leading (language.language w) (CodeOk w) (FrameOk w) (ForkOk w) (Tells w)
   known = record {
-    spent-at-code = λ c s. tells-at w 20 c (omega arith) (omega arith) s;
+    spent-at-code = λ c s. spent-at w c s refl refl;
     spent-at-frame = spent-known;
-    spent-at-fork = λ c t. tells-at w 20 c (omega arith) (omega arith) (t .stands);
+    spent-at-fork = λ c t. spent-at w c (t .stands) (omega arith) (omega arith);
     full-at-code = λ c s. tells-at w 21 c (omega arith) (omega arith) s;
     next = λ c s. next-known c s _ refl;
     arrive = arrive-known;
@@ -244,11 +250,11 @@ module _ (m : Schedule) (w arguments : List ℕ) (fuel N τ workspace : ℕ) (s 
       (entryCode arguments) (enter w table 0 (omega (arith, table .contents .header .some))) i p g t e in
       let z : Listed w fuel (record { number = i; function = p .function; node = p .node; transitions = t .transitions }) = record {
         least = a .tells .least;
-        most = a .tells .most;
+        most = omega arith;
         function = a .tells .function;
         node = a .tells .node;
         within-fuel = a .within-fuel;
-        spent = a .spent;
+        spent = λ h. a .spent (omega arith);
       } in
       rw q at z
 

@@ -9,7 +9,7 @@ use lib.Dec.{leb}
 use lib.ListN.{length}
 use borrow.Author.Tests.{leb-true, leb-false, le-leb, lt-leb}
 use Rattle.schedule.specs.FrameMachine.{Control, evaluate, FrameMachine}
-use Rattle.schedule.specs.Machine.{sequential, parallel, heartbeat, promoted-at-birth, promotion-due}
+use Rattle.schedule.specs.Machine.{Schedule, sequential, parallel, heartbeat, promoted-at-birth, promotion-due}
 use Rattle.schedule.proofs.Moves.{and-true}
 use Rattle.published.specs.CostGraph.{CostGraph, _·_, _∥_}
 use Rattle.published.specs.Judgments.{awaiting-left, PlainStack, can-promote, Sequential, seq-value, seq-step, Parallel, par-value, par-step, par-fork, Heartbeat, hb-value, hb-step, hb-promote}
@@ -22,24 +22,25 @@ pub record Converted (D : Type 0) (made held : D → ℕ) (k p : ℕ) : Type 0 w
   pub transitions : made derivation ≡ k
   pub frames : held derivation ≡ p
 
-forks-alike : (below : ℕ) {k1 k2 k3 p1 p2 p3 k1' k2' k3' p1' p2' p3' : ℕ} → k1 ≡ k1' → k2 ≡ k2' → k3 ≡ k3' → p1 ≡ p1' → p2 ≡ p2' → p3 ≡ p3'
-    → (k1 + k2 + k3 ≡ k1' + k2' + k3') × (fork-frames below p1 p2 p3 ≡ fork-frames below p1' p2' p3')
-forks-alike below a b c d e f = (omega arith, omega arith)
+-- A derivation with credits, a graph and resources that are equal, in whatever way a rule writes them.
+recounted : {M : FrameMachine} {m : Schedule} {c : Control (M .Code)} {S : PlainStack M} {n n' v : ℕ} {g g' : CostGraph} {k k' p p' : ℕ}
+    → Eval M m c S n v g k p → n ≡ n' → g ≡ g' → k ≡ k' → p ≡ p' → Eval M m c S n' v g' k' p'
+recounted e en eg ek ep = rw (en, eg, ek, ep) at e
 
 -- HBSTEP's premise is that no promotion is due.
-pub not-due : (N n : ℕ) (able : Bool) → (n < N) ⊎ (able ≡ false) → leb N n && able ≡ false
-not-due N n able (inl h) = rw (lt-leb N n h)
-not-due N n able (inr h) = rw h (on (leb N n))
+pub not-due : {A : Type 0} (N n : ℕ) (able : Bool) → (A → able ≡ false) → (n < N) ⊎ A → leb N n && able ≡ false
+not-due N n able none (inl h) = rw (lt-leb N n h)
+not-due N n able none (inr h) = rw (none h) (on (leb N n))
   where
     on : (q : Bool) → q && false ≡ false
     on true = refl
     on false = refl
 
-pub due-not : (N n : ℕ) (able : Bool) → leb N n && able ≡ false → (n < N) ⊎ (able ≡ false)
-due-not N n able e = on (leb N n) refl e
+pub due-not : {A : Type 0} (N n : ℕ) (able : Bool) → (able ≡ false → A) → leb N n && able ≡ false → (n < N) ⊎ A
+due-not {A} N n able none e = on (leb N n) refl e
   where
-    on : (q : Bool) → leb N n ≡ q → q && able ≡ false → (n < N) ⊎ (able ≡ false)
-    on true h e = inr e
+    on : (q : Bool) → leb N n ≡ q → q && able ≡ false → (n < N) ⊎ A
+    on true h e = inr (none e)
     on false h e = inl (leb-false N n h)
 
 module _ {M : FrameMachine} where
@@ -68,7 +69,8 @@ module _ {M : FrameMachine} where
   unfolding promotion-due promoted-at-birth par-transitions par-frames
   of-par n par-value = by-value
   of-par n (par-step f x d) = by-step refl f x (of-par (n + 1) d)
-  of-par n (par-fork h d1 d2 d3) = by-fork refl h (of-par 0 d1) (of-par 0 d2) (of-par 0 d3)
+  of-par n (par-fork h d1 d2 d3) =
+      recounted (by-fork refl h (of-par 0 d1) (of-par 0 d2) (of-par 0 d3)) refl (cc) (omega arith) (omega arith)
 
   pub to-par : {c : Control (M .Code)} {S : PlainStack M} {n v : ℕ} {g : CostGraph} {k p : ℕ} → Eval M parallel c S n v g k p
       → Converted (Parallel M c S v g) (λ d. par-transitions d) (λ d. par-frames d) k p
@@ -81,20 +83,36 @@ module _ {M : FrameMachine} where
         transitions = ap (λ k. k + 1) (r .transitions);
         frames = ap (max (length S)) (r .frames);
       }
-  to-par (by-fork {S = S} b h e1 e2 e3) =
+  to-par (by-fork b h e1 e2 e3) =
       let r1 = to-par e1 in
       let r2 = to-par e2 in
       let r3 = to-par e3 in
-      let a = forks-alike (length S) (r1 .transitions) (r2 .transitions) (r3 .transitions) (r1 .frames) (r2 .frames) (r3 .frames) in
-      record { derivation = par-fork h (r1 .derivation) (r2 .derivation) (r3 .derivation); transitions = a .0; frames = a .1 }
+      record { derivation = par-fork h (r1 .derivation) (r2 .derivation) (r3 .derivation); transitions = omega arith; frames = omega arith }
   to-par (by-promotion s q o e1 e2 e3) = absurd (true≢false (sym q))
 
   pub of-hb : {N : ℕ} {c : Control (M .Code)} {S : PlainStack M} {n v : ℕ} {g : CostGraph} (d : Heartbeat M N c S n v g)
       → Eval M (heartbeat N) c S n v g (hb-transitions d) (hb-frames d)
   unfolding promotion-due promoted-at-birth hb-transitions hb-frames
   of-hb hb-value = by-value
-  of-hb {N} (hb-step {S = S} {n = n} q x d) = by-step (not-due N n (can-promote S) q) refl x (of-hb d)
-  of-hb {N} (hb-promote {n = n} q o d1 d2 d3) = by-promotion {n = n} refl (rw (le-leb N n q)) o (of-hb d1) (of-hb d2) (of-hb d3)
+  of-hb {N} (hb-step {S = S} {n = n} q x d) = by-step (not-due N n (can-promote S) (λ e. cc) q) refl x (of-hb d)
+  of-hb {N} (hb-promote {older = Y} {n = n} q o d1 d2 d3) =
+      recounted
+      (by-promotion {older = Y} {n = n} refl (rw (le-leb N n (omega arith))) (cc) (of-hb d1) (of-hb d2) (recounted (of-hb d3) (omega arith) refl refl refl))
+      refl (cc) (omega arith) (omega arith)
+
+  -- As `recounted`, of the credits.
+  module _ {N : ℕ} {c : Control (M .Code)} {S : PlainStack M} {n n' v : ℕ} {g : CostGraph} {k p : ℕ}
+      (r : Converted (Heartbeat M N c S n v g) (λ d. hb-transitions d) (λ d. hb-frames d) k p) (e : n ≡ n') where
+    unfoldable credited : Heartbeat M N c S n' v g
+    credited = (rw e at r) .derivation
+
+    credited-transitions : hb-transitions credited ≡ k
+    unfolding credited
+    credited-transitions = (rw e at r) .transitions
+
+    credited-frames : hb-frames credited ≡ p
+    unfolding credited
+    credited-frames = (rw e at r) .frames
 
   promoted : {N : ℕ} {c : Control (M .Code)} {b : M .Fork} {S newer older : PlainStack M} {n u w v : ℕ} {g1 g2 g3 : CostGraph}
       {k1 k2 k3 p1 p2 p3 : ℕ}
@@ -105,9 +123,12 @@ module _ {M : FrameMachine} where
       → Converted (Heartbeat M N c S n v (g1 ∥ g2 · g3)) (λ d. hb-transitions d) (λ d. hb-frames d) (k1 + k2 + k3)
       (fork-frames (length older) p1 p2 p3)
   unfolding hb-transitions hb-frames
-  promoted {older = older} s q o r1 r2 r3 =
-      let a = forks-alike (length older) (r1 .transitions) (r2 .transitions) (r3 .transitions) (r1 .frames) (r2 .frames) (r3 .frames) in
-      rw s (record { derivation = hb-promote q o (r1 .derivation) (r2 .derivation) (r3 .derivation); transitions = a .0; frames = a .1 })
+  promoted {older = Y} {n = n} s q o r1 r2 r3 =
+      rw s (record {
+        derivation = hb-promote {older = Y} {n = n} (omega arith) (cc) (r1 .derivation) (r2 .derivation) (credited r3 (omega arith));
+        transitions = simp credited-transitions (omega arith);
+        frames = simp credited-frames (omega arith);
+      })
 
   pub to-hb : {N : ℕ} {c : Control (M .Code)} {S : PlainStack M} {n v : ℕ} {g : CostGraph} {k p : ℕ} → Eval M (heartbeat N) c S n v g k p
       → Converted (Heartbeat M N c S n v g) (λ d. hb-transitions d) (λ d. hb-frames d) k p
@@ -116,7 +137,7 @@ module _ {M : FrameMachine} where
   to-hb {N} (by-step {S = S} {n = n} q f x e) =
       let r = to-hb e in
       record {
-        derivation = hb-step (due-not N n (can-promote S) q) x (r .derivation);
+        derivation = hb-step {S = S} (due-not N n (can-promote S) (λ e. cc) q) x (r .derivation);
         transitions = ap (λ k. k + 1) (r .transitions);
         frames = ap (max (length S)) (r .frames);
       }

@@ -3,7 +3,7 @@
 use mathlib.Core.Path.{_≡_, refl, ap, _∙_}
 use mathlib.Core.List.{[], _∷_}
 use mathlib.Core.Bool.{Bool, true, false, true≢false, _&&_}
-use Prim.Native.Nat.{ℕ, suc, _+_, _≤_}
+use Prim.Native.Nat.{ℕ, suc, _+_, _≤_, _<_}
 use native.Mathlib.Omega.{arith}
 use lib.ListN.{length, length-append}
 use borrow.Author.Tests.{le-ltb}
@@ -116,10 +116,10 @@ module _ (M : FrameMachine) (fuel frames : ℕ) (m : Schedule) where
     pub transitions : t' .transitions ≡ t .transitions
     pub deepest : length N + suc (length Y + length R) ≤ t' .deepest
 
-  splits-at : {c d : Control (M .Code)} {S N Y : PlainStack M} {b : M .Fork} {n : ℕ} (free : ℕ) → Splits M m c S n d N b Y
-      → (R : Stack graphs M) → promotable R ≡ false → (h : Graph) (t : RunCounts) → length R + (length Y + 1 + free) ≡ frames
+  splits-at : {c d : Control (M .Code)} {S N Y : PlainStack M} {b : M .Fork} {n : ℕ} → Splits M m c S n d N b Y
+      → (R : Stack graphs M) → promotable R ≡ false → (h : Graph) (t : RunCounts) → length R + length Y < frames
       → length S + length R ≤ t .deepest → Split c d S N Y b n R h t
-  splits-at free (at-birth {c = c} {d = d} {b = b} {S = S} {n = n} q e) R hr h t r dp =
+  splits-at (at-birth {c = c} {d = d} {b = b} {S = S} {n = n} q e) R hr h t r dp =
       let ls = length-over S R in
       record {
         t' = deeper (length (S ⊕ R) + 1) (split t);
@@ -127,7 +127,7 @@ module _ (M : FrameMachine) (fuel frames : ℕ) (m : Schedule) where
         transitions = refl;
         deepest = omega arith;
       }
-  splits-at free (at-promotion {c = c} {b = b} {S = S} {newer = N} {older = Y} {n = n} s q o) R hr h t r dp =
+  splits-at (at-promotion {c = c} {b = b} {S = S} {newer = N} {older = Y} {n = n} s q o) R hr h t r dp =
       let ln = length-append N (awaiting-left b ∷ Y) in
       let ls = ap length s in
       record {
@@ -137,8 +137,8 @@ module _ (M : FrameMachine) (fuel frames : ℕ) (m : Schedule) where
         deepest = omega arith;
       }
 
-  module _ {c d : Control (M .Code)} {S N Y : PlainStack M} {b : M .Fork} {n : ℕ} (free : ℕ) (x : Splits M m c S n d N b Y)
-      (R : Stack graphs M) (hr : promotable R ≡ false) (h : Graph) (t : RunCounts) (r : length R + (length Y + 1 + free) ≡ frames)
+  module _ {c d : Control (M .Code)} {S N Y : PlainStack M} {b : M .Fork} {n : ℕ} (x : Splits M m c S n d N b Y)
+      (R : Stack graphs M) (hr : promotable R ≡ false) (h : Graph) (t : RunCounts) (r : length R + length Y < frames)
       (dp : length S + length R ≤ t .deepest) where
     abbrev s0 : State graphs M
     s0 = state c (S ⊕ R) n h t
@@ -147,12 +147,12 @@ module _ (M : FrameMachine) (fuel frames : ℕ) (m : Schedule) where
     above = promoted-left h b ∷ (Y ⊕ R)
 
     abbrev first : Split c d S N Y b n R h t
-    first = splits-at free x R hr h t r dp
+    first = splits-at x R hr h t r dp
 
-    left-halts : {left i : ℕ} {p : Place} {k : ℕ} → Halting left free d N 0 i p k → t .transitions + left ≡ fuel
-        → Halted s0 i p (t .transitions + k)
+    left-halts : {left free i : ℕ} {p : Place} {k : ℕ} → Halting left free d N 0 i p k → t .transitions + left ≡ fuel
+        → length R + (length Y + 1 + free) ≡ frames → Halted s0 i p (t .transitions + k)
     unfolding promotable
-    left-halts a l =
+    left-halts a l z =
         let ly = length-over Y R in
         let f = first in
         later (one (f .goes)) (a .to above refl empty (f .t') (omega arith) (omega arith) (omega arith)) (omega arith)
@@ -164,7 +164,8 @@ module _ (M : FrameMachine) (fuel frames : ℕ) (m : Schedule) where
       transitions : t' .transitions ≡ t .transitions + k1
       deepest : suc (length Y + length R) ≤ t' .deepest
 
-    turned : {u : ℕ} {g : CostGraph} {k1 p1 : ℕ} → Eval M m d N 0 u g k1 p1 → p1 ≤ free → t .transitions + k1 ≤ fuel → Turned u g k1
+    turned : {u : ℕ} {g : CostGraph} {k1 p1 : ℕ} → Eval M m d N 0 u g k1 p1 → length R + (length Y + 1 + p1) ≤ frames
+        → t .transitions + k1 ≤ fuel → Turned u g k1
     unfolding promotable
     turned {u} {g} {k1} {p1} e hp l =
         let ly = length-over Y R in
@@ -177,24 +178,24 @@ module _ (M : FrameMachine) (fuel frames : ℕ) (m : Schedule) where
           deepest = omega arith;
         }
 
-    right-halts : {u : ℕ} {g : CostGraph} {k1 p1 rest left i : ℕ} {p : Place} {k : ℕ} → Eval M m d N 0 u g k1 p1 → p1 ≤ free
-        → left ≡ k1 + rest → Halting rest free (evaluate (M .right b)) [] 0 i p k → t .transitions + left ≡ fuel
-        → Halted s0 i p (t .transitions + (k1 + k))
+    right-halts : {u : ℕ} {g : CostGraph} {k1 p1 left free i : ℕ} {p : Place} {k : ℕ} → Eval M m d N 0 u g k1 p1 → p1 ≤ free
+        → Halting left free (evaluate (M .right b)) [] 0 i p k → t .transitions + (k1 + left) ≡ fuel
+        → length R + (length Y + 1 + free) ≡ frames → Halted s0 i p (t .transitions + (k1 + k))
     unfolding promotable
-    right-halts {u} {g} e hp el a l =
+    right-halts {u} {g} e hp a l z =
         let ly = length-over Y R in
-        let f = turned e hp (omega arith) in
+        let f = turned e (omega arith) (omega arith) in
         later (f .goes)
         (a .to (promoted-right h (empty ▹ g) b u ∷ (Y ⊕ R)) refl empty (f .t') (omega arith) (omega arith) (omega arith)) (omega arith)
 
-    body-halts : {u w : ℕ} {g1 g2 : CostGraph} {k1 p1 k2 p2 rest left i : ℕ} {p : Place} {k : ℕ} → Eval M m d N 0 u g1 k1 p1 → p1 ≤ free
-        → Eval M m (evaluate (M .right b)) [] 0 w g2 k2 p2 → p2 ≤ free
-        → left ≡ k1 + k2 + rest → Halting rest (length Y + 1 + free) (evaluate (M .body b u w)) Y 0 i p k → t .transitions + left ≡ fuel
+    body-halts : {u w : ℕ} {g1 g2 : CostGraph} {k1 p1 k2 p2 left own i : ℕ} {p : Place} {k : ℕ} → Eval M m d N 0 u g1 k1 p1
+        → length Y + 1 + p1 ≤ own → Eval M m (evaluate (M .right b)) [] 0 w g2 k2 p2 → length Y + 1 + p2 ≤ own
+        → Halting left own (evaluate (M .body b u w)) Y 0 i p k → t .transitions + (k1 + k2 + left) ≡ fuel → length R + own ≡ frames
         → Halted s0 i p (t .transitions + (k1 + k2 + k))
     unfolding promotable
-    body-halts {u} {w} {g1} {g2} e1 h1 e2 h2 el a l =
+    body-halts {u} {w} {g1} {g2} e1 h1 e2 h2 a l o =
         let ly = length-over Y R in
-        let f = turned e1 h1 (omega arith) in
+        let f = turned e1 (omega arith) (omega arith) in
         let z = lands M fuel frames m e2 .to (promoted-right h (empty ▹ g1) b u ∷ (Y ⊕ R)) refl empty (f .t') (omega arith) (omega arith)
         (omega arith) in
         later (onto M fuel frames m (f .goes) (then-body z))
@@ -223,9 +224,7 @@ module _ (M : FrameMachine) (fuel frames : ℕ) (m : Schedule) where
         later stay (at-once h t (step-quiet M fuel frames m (evaluate c) (S ⊕ R) n h t _ (born-quiet m n (promotable (S ⊕ R)) q)
         (rw q (stuck-is graphs M fuel frames (no-fork-frame e (λ w. absurd (true≢false w)) (omega arith)))))) (omega arith);
   }
-  halting (after-step q f x lt a) = step-halts q f x lt (halting a)
-  halting (in-left {free = free} x e a) = record { to = λ R hr h t l r dp. left-halts free x R hr h t (rw e at r) dp (halting a) l }
-  halting (in-right {free = free} x e e1 h1 el a) =
-      record { to = λ R hr h t l r dp. right-halts free x R hr h t (rw e at r) dp e1 h1 el (halting a) l }
-  halting (in-body {free = free} x e e1 h1 e2 h2 el a) =
-      record { to = λ R hr h t l r dp. body-halts free x R hr h t (rw e at r) dp e1 h1 e2 h2 el (rw e at (halting a)) l }
+  halting (after-step q f x a lt) = step-halts q f x lt (halting a)
+  halting (in-left x a) = record { to = λ R hr h t l r dp. left-halts x R hr h t (omega arith) dp (halting a) l r }
+  halting (in-right x e1 a h1) = record { to = λ R hr h t l r dp. right-halts x R hr h t (omega arith) dp e1 h1 (halting a) l r }
+  halting (in-body x e1 e2 a h1 h2) = record { to = λ R hr h t l r dp. body-halts x R hr h t (omega arith) dp e1 h1 e2 h2 (halting a) l r }

@@ -10,7 +10,7 @@ use Rattle.schedule.specs.Machine.{Schedule, promoted-at-birth, promotion-due}
 use Rattle.published.specs.CostGraph.{CostGraph, _·_, _∥_}
 use Rattle.published.specs.Judgments.{awaiting-left, PlainStack, can-promote, Transition, forks-at}
 use Rattle.published.specs.Resources.{fork-frames}
-use Rattle.published.specs.Stops.{Halts}
+use Rattle.published.specs.Stops.{NoneFree, Halts}
 use Rattle.published.proofs.Schedules.{Eval, by-fork, by-promotion}
 
 -- The machine c with the stack S splits: d with the stack N runs on the left, then the right branch of b, then its body with the stack Y.
@@ -33,18 +33,23 @@ pub data Stops (M : FrameMachine) (m : Schedule) : ℕ → ℕ → Control (M .C
   by-halt : {fuel frames : ℕ} {c : Control (M .Code)} {S : PlainStack M} {n i : ℕ} {p : Place} → promotion-due m n (can-promote S) ≡ false
       → promoted-at-birth m && forks-at M c ≡ false → Halts M fuel frames c S i p → Stops M m fuel frames c S n i p 0
   by-no-frame : {fuel frames : ℕ} {c d : M .Code} {b : M .Fork} {S : PlainStack M} {n : ℕ} → promoted-at-birth m ≡ true
-      → M .next c ≡ open-fork b d → frames ≤ length S → Stops M m fuel frames (evaluate c) S n 21 (M .code-place c) 0
+      → M .next c ≡ open-fork b d → NoneFree M frames S → Stops M m fuel frames (evaluate c) S n 21 (M .code-place c) 0
   after-step : {fuel frames : ℕ} {c d : Control (M .Code)} {S T : PlainStack M} {n i : ℕ} {p : Place} {k : ℕ}
-      → promotion-due m n (can-promote S) ≡ false → promoted-at-birth m && forks-at M c ≡ false → Transition M c S d T → length T ≤ frames
-      → Stops M m fuel frames d T (n + 1) i p k → Stops M m (fuel + 1) frames c S n i p (k + 1)
-  in-left : {fuel frames free : ℕ} {c d : Control (M .Code)} {S N Y : PlainStack M} {b : M .Fork} {n i : ℕ} {p : Place} {k : ℕ}
-      → Splits M m c S n d N b Y → frames ≡ length Y + 1 + free → Stops M m fuel free d N 0 i p k → Stops M m fuel frames c S n i p k
-  in-right : {fuel rest frames free : ℕ} {c d : Control (M .Code)} {S N Y : PlainStack M} {b : M .Fork} {n u : ℕ} {g : CostGraph} {k1 p1 : ℕ}
+      → promotion-due m n (can-promote S) ≡ false → promoted-at-birth m && forks-at M c ≡ false → Transition M c S d T
+      → Stops M m fuel frames d T (n + 1) i p k → length T ≤ frames → Stops M m (fuel + 1) frames c S n i p (k + 1)
+  in-left : {fuel free : ℕ} {c d : Control (M .Code)} {S N Y : PlainStack M} {b : M .Fork} {n i : ℕ} {p : Place} {k : ℕ}
+      → Splits M m c S n d N b Y → Stops M m fuel free d N 0 i p k → Stops M m fuel (length Y + 1 + free) c S n i p k
+  in-right : {fuel free : ℕ} {c d : Control (M .Code)} {S N Y : PlainStack M} {b : M .Fork} {n u : ℕ} {g : CostGraph} {k1 p1 : ℕ}
       {i : ℕ} {p : Place} {k : ℕ}
-      → Splits M m c S n d N b Y → frames ≡ length Y + 1 + free → Eval M m d N 0 u g k1 p1 → p1 ≤ free → fuel ≡ k1 + rest
-      → Stops M m rest free (evaluate (M .right b)) [] 0 i p k → Stops M m fuel frames c S n i p (k1 + k)
-  in-body : {fuel rest frames free : ℕ} {c d : Control (M .Code)} {S N Y : PlainStack M} {b : M .Fork} {n u w : ℕ} {g1 g2 : CostGraph}
+      → Splits M m c S n d N b Y → Eval M m d N 0 u g k1 p1 → Stops M m fuel free (evaluate (M .right b)) [] 0 i p k → p1 ≤ free
+      → Stops M m (k1 + fuel) (length Y + 1 + free) c S n i p (k1 + k)
+  in-body : {fuel frames : ℕ} {c d : Control (M .Code)} {S N Y : PlainStack M} {b : M .Fork} {n u w : ℕ} {g1 g2 : CostGraph}
       {k1 p1 k2 p2 : ℕ} {i : ℕ} {p : Place} {k : ℕ}
-      → Splits M m c S n d N b Y → frames ≡ length Y + 1 + free → Eval M m d N 0 u g1 k1 p1 → p1 ≤ free
-      → Eval M m (evaluate (M .right b)) [] 0 w g2 k2 p2 → p2 ≤ free → fuel ≡ k1 + k2 + rest
-      → Stops M m rest frames (evaluate (M .body b u w)) Y 0 i p k → Stops M m fuel frames c S n i p (k1 + k2 + k)
+      → Splits M m c S n d N b Y → Eval M m d N 0 u g1 k1 p1 → Eval M m (evaluate (M .right b)) [] 0 w g2 k2 p2
+      → Stops M m fuel frames (evaluate (M .body b u w)) Y 0 i p k → length Y + 1 + p1 ≤ frames → length Y + 1 + p2 ≤ frames
+      → Stops M m (k1 + k2 + fuel) frames c S n i p (k1 + k2 + k)
+
+-- Fuel, frames and transitions are numbers, in whatever way a rule writes them.
+pub at-limits : {M : FrameMachine} {m : Schedule} {fuel fuel' frames frames' : ℕ} {c : Control (M .Code)} {S : PlainStack M} {n i : ℕ} {p : Place}
+    {k k' : ℕ} → Stops M m fuel frames c S n i p k → fuel ≡ fuel' → frames ≡ frames' → k ≡ k' → Stops M m fuel' frames' c S n i p k'
+at-limits a f r e = rw (f, r, e) at a

@@ -16,10 +16,10 @@ use Rattle.schedule.proofs.Moves.{due-promotable}
 use Rattle.published.specs.CostGraph.{CostGraph, 𝟎, 𝟏, _·_, _∥_}
 use Rattle.published.specs.Judgments.{ordinary-frame, awaiting-left, awaiting-right, PlainStack, can-promote, Transition, continue, open-ordinary, open-both, close-ordinary, keep-ordinary, turn, join, is-fork, forks-at}
 use Rattle.published.specs.Resources.{fork-frames}
-use Rattle.published.specs.Stops.{at-node, at-ordinary, at-left, at-right, Halts, fuel-spent, no-free-frame, no-frame-to-fork, stuck-at-node, fails-at-frame}
+use Rattle.published.specs.Stops.{at-node, at-ordinary, at-left, at-right, NoneFree, Halts, fuel-spent, no-free-frame, no-frame-to-fork, stuck-at-node, fails-at-frame}
 use Rattle.published.proofs.Schedules.{Eval, by-value, by-step, by-fork, by-promotion}
 use Rattle.published.proofs.FromRun.{and-no, Cut, cut}
-use Rattle.published.proofs.Stopping.{Splits, at-birth, at-promotion, split-eval, Stops, by-halt, by-no-frame, after-step, in-left, in-right, in-body}
+use Rattle.published.proofs.Stopping.{Splits, at-birth, at-promotion, split-eval, Stops, by-halt, by-no-frame, after-step, in-left, in-right, in-body, at-limits}
 
 -- What starts at a node makes a transition before its value.
 moves-first : {M : FrameMachine} {m : Schedule} {c : Control (M .Code)} {S : PlainStack M} {n v : ℕ} {g : CostGraph} {k p : ℕ} {d : M .Code}
@@ -75,12 +75,11 @@ module _ (M : FrameMachine) (m : Schedule) where
           holds = omega arith;
         })
     body-comes y z (inr r) =
-        let spends : fuel ≡ y .k + z .k + (fuel - y .k - z .k) = omega arith in
         inr (record {
           i = r .i;
           p = r .p;
           k = y .k + z .k + r .k;
-          stops = in-body x e (y .eval) (y .holds) (z .eval) (z .holds) spends (r .stops);
+          stops = at-limits (in-body x (y .eval) (z .eval) (r .stops) (omega arith) (omega arith)) (omega arith) refl refl;
         })
 
     right-comes : (y : Valued fuel free d N 0) → Comes (fuel - y .k) free (evaluate (M .right b)) [] 0 → Comes fuel frames c S n
@@ -88,15 +87,22 @@ module _ (M : FrameMachine) (m : Schedule) where
         let l = moves-first (r .eval) refl in
         body-comes y r (ih (fuel - y .k - r .k) frames (evaluate (M .body b (y .v) (r .v))) Y 0 (omega arith) (omega arith))
     right-comes y (inr r) =
-        let spends : fuel ≡ y .k + (fuel - y .k) = omega arith in
-        inr (record { i = r .i; p = r .p; k = y .k + r .k; stops = in-right x e (y .eval) (y .holds) spends (r .stops) })
+        inr (record {
+          i = r .i;
+          p = r .p;
+          k = y .k + r .k;
+          stops = at-limits (in-right x (y .eval) (r .stops) (y .holds)) (omega arith) (omega arith) refl;
+        })
 
     left-comes : Comes fuel free d N 0 → Comes fuel frames c S n
     left-comes (inl r) = right-comes r (ih (fuel - r .k) free (evaluate (M .right b)) [] 0 (omega arith) (omega arith))
-    left-comes (inr r) = inr (record { i = r .i; p = r .p; k = r .k; stops = in-left x e (r .stops) })
+    left-comes (inr r) = inr (record { i = r .i; p = r .p; k = r .k; stops = at-limits (in-left x (r .stops)) refl (omega arith) refl })
 
     split-comes : length N ≤ free → Comes fuel frames c S n
     split-comes l = left-comes (ih fuel free d N 0 (omega arith) l)
+
+  none-free : (frames : ℕ) (S : PlainStack M) → ltb (length S) frames ≡ false → NoneFree M frames S
+  none-free frames S h = omega (arith, ltb-false (length S) frames h)
 
   -- A STEP.
   step-comes : {fuel frames : ℕ} {c d : Control (M .Code)} {S T : PlainStack M} {n : ℕ} → promotion-due m n (can-promote S) ≡ false
@@ -112,16 +118,16 @@ module _ (M : FrameMachine) (m : Schedule) where
         fits = omega arith;
         holds = omega arith;
       })
-  step-comes q f x ls lt (inr r) = inr (record { i = r .i; p = r .p; k = r .k + 1; stops = after-step q f x lt (r .stops) })
+  step-comes q f x ls lt (inr r) = inr (record { i = r .i; p = r .p; k = r .k + 1; stops = after-step q f x (r .stops) lt })
 
   -- With no fuel.
   spent : (frames : ℕ) (c : Control (M .Code)) (S : PlainStack M) (n : ℕ) → promotion-due m n (can-promote S) ≡ false
       → promoted-at-birth m && forks-at M c ≡ false → Comes 0 frames c S n
-  spent frames (evaluate c) S n q f = halted q f (fuel-spent refl at-node)
+  spent frames (evaluate c) S n q f = halted q f (fuel-spent (omega arith) at-node)
   spent frames (return v) [] n q f = at-end
-  spent frames (return v) (ordinary-frame e ∷ S) n q f = halted q f (fuel-spent refl at-ordinary)
-  spent frames (return v) (awaiting-left b ∷ S) n q f = halted q f (fuel-spent refl at-left)
-  spent frames (return v) (awaiting-right b w ∷ S) n q f = halted q f (fuel-spent refl at-right)
+  spent frames (return v) (ordinary-frame e ∷ S) n q f = halted q f (fuel-spent (omega arith) at-ordinary)
+  spent frames (return v) (awaiting-left b ∷ S) n q f = halted q f (fuel-spent (omega arith) at-left)
+  spent frames (return v) (awaiting-right b w ∷ S) n q f = halted q f (fuel-spent (omega arith) at-right)
 
   -- With fuel for a step.
   module _ (a : ℕ) (ih : Below a) (fuel frames : ℕ) (n : ℕ) (le : fuel + 1 + frames < suc a) where
@@ -138,12 +144,12 @@ module _ (M : FrameMachine) (m : Schedule) where
       where
         on : (z : Bool) → ltb (length S) frames ≡ z → Comes (fuel + 1) frames (evaluate c) S n
         on true h = let l = ltb-true (length S) frames h in stepped q f (open-ordinary e) ls (omega arith)
-        on false h = halted q f (no-free-frame (omega arith) e (ltb-false (length S) frames h))
+        on false h = halted q f (no-free-frame {S = S} (omega arith) e (none-free frames S h))
     at-code c S (open-fork b d) e q f ls = on (ltb (length S) frames) refl
       where
         on : (z : Bool) → ltb (length S) frames ≡ z → Comes (fuel + 1) frames (evaluate c) S n
         on true h = let l = ltb-true (length S) frames h in stepped q f (open-both e) ls (omega arith)
-        on false h = halted q f (no-frame-to-fork (omega arith) e (ltb-false (length S) frames h))
+        on false h = halted q f (no-frame-to-fork {S = S} (omega arith) e (none-free frames S h))
     at-code c S (stuck i) e q f ls = halted q f (stuck-at-node (omega arith) e)
 
     at-frame : (g : M .Frame) (v : ℕ) (S : PlainStack M) (o : Arrival (M .Code) (M .Frame)) → M .arrive g v ≡ o
@@ -178,7 +184,7 @@ module _ (M : FrameMachine) (m : Schedule) where
           on true h =
               let l = ltb-true (length S) frames h in
               split-comes a ih (at-birth q e) fuel frames (frames - (length S + 1)) (omega arith) le (omega arith)
-          on false h = inr (record { i = 21; p = M .code-place c; k = 0; stops = by-no-frame q e (ltb-false (length S) frames h) })
+          on false h = inr (record { i = 21; p = M .code-place c; k = 0; stops = by-no-frame q e (none-free frames S h) })
 
       born-at : (c : M .Code) (S : PlainStack M) (o : Next (M .Code) (M .Frame) (M .Fork)) → M .next c ≡ o
           → promotion-due m n (can-promote S) ≡ false → promoted-at-birth m ≡ true → length S ≤ frames → Comes fuel frames (evaluate c) S n

@@ -22,7 +22,8 @@ use Rattle.language.specs.declared.Answer.the-variants.{Value, Stopped, Refused
 use Rattle.language.specs.Language.{language}
 use Rattle.language.specs.Checks.{framesIn, checkedOf}
 use Rattle.language.specs.Answers.{entryCode, countsOf, stopped, toldBy, afterCheck, runOf, answerOf}
-use Rattle.language.proofs.Told.{ran-unrefused}
+use Rattle.language.proofs.Told.{answer-refused, ran-unrefused}
+use Rattle.language.proofs.Places.{same-place}
 use Rattle.language.proofs.Stops.{stop-of}
 use Rattle.published.specs.CostGraph.{work-of, span-of, fork-count, flat}
 use Rattle.published.specs.Adequacy.{Judgment, Reaches, Told}
@@ -38,6 +39,18 @@ counts-of other (Value v a) = a
 counts-of other (Stopped s) = other
 counts-of other (Refused r) = other
 
+-- What is told are numbers, in whatever way they are written.
+same-counts : {a b c d a' b' c' d' : ℕ} → a ≡ a' → b ≡ b' → c ≡ c' → d ≡ d' → countsOf a b c d ≡ countsOf a' b' c' d'
+same-counts a b c d = rw (a, b, c, d)
+
+same-stop : {i f n t : ℕ} (s : Stop) → i ≡ s .number → f ≡ s .function → n ≡ s .node → t ≡ s .transitions
+    → stopped i (record { function = f; node = n }) t ≡ Stopped s
+same-stop s a b c d = rw (a, b, c, d)
+
+at-frames : {J : Judgment} {fuel frames frames' τ v : ℕ} {k : Counts} → Counted J fuel frames τ v k → frames ≡ frames'
+    → Counted J fuel frames' τ v k
+at-frames c e = rw e at c
+
 module _ (m : Schedule) (w arguments : List ℕ) (fuel τ workspace : ℕ) where
   abbrev J : Judgment
   J = judged m w arguments
@@ -51,7 +64,7 @@ module _ (m : Schedule) (w arguments : List ℕ) (fuel τ workspace : ℕ) where
       let c = d .reaches .graph in
       let paid : work τ g ≡ work-of τ c = ap (work τ) (d .graph-is) ∙ work-flat τ c in
       let long : span τ g ≡ span-of τ c = ap (span τ) (d .graph-is) ∙ span-flat τ c in
-      record { reaches = d .reaches; counts-are = sym e ∙ rw (d .transitions-are, d .forks-are, paid, long) }
+      record { reaches = d .reaches; counts-are = sym e ∙ same-counts (d .transitions-are) (d .forks-are) (omega arith) (omega arith) }
 
   from-run : (v : ℕ) (k : Counts) (o : Result graphs (language w)) → ran ≡ o → toldBy τ o ≡ Value v k
       → Counted J fuel (framesIn workspace) τ v k
@@ -71,7 +84,8 @@ module _ (m : Schedule) (w arguments : List ℕ) (fuel τ workspace : ℕ) where
       { transitions = J .transitions (c .reaches .derivation); forks = fork-count g; deepest = J .frames (c .reaches .derivation) } in
       let e = adequate (language w) fuel (framesIn workspace) m (entryCode arguments) v (flat g) t .1
       (record { reaches = c .reaches; graph-is = refl; transitions-are = refl; forks-are = refl; deepest-is = refl }) in
-      ap (toldBy τ) e ∙ rw (work-flat τ g, span-flat τ g, c .counts-are)
+      ap (toldBy τ) e
+      ∙ ap (Value v) (same-counts refl refl (omega (arith, work-flat τ g)) (omega (arith, span-flat τ g)) ∙ sym (c .counts-are))
 
   none-reached : (s : Stop) (o : Result graphs (language w)) → ran ≡ o → toldBy τ o ≡ Stopped s → (v : ℕ)
       → Reaches J fuel (framesIn workspace) v → ⊥
@@ -95,8 +109,11 @@ module _ (m : Schedule) (w arguments : List ℕ) (fuel τ workspace : ℕ) where
       → _≡_ {A = Stop} (record { number = i; function = p .function; node = p .node; transitions = t .transitions }) s → Derives s
   named {g} {t} s i p e q =
       let a : StopsSo ends-here i p (t .transitions) = record { ends = record { cost = g; counts = t; is = e }; transitions-are = refl } in
+      let function = ap (λ x. x .function) q in
+      let node = ap (λ x. x .node) q in
+      let place : p ≡ placeOf s = same-place (omega arith) (omega arith) in
       let told : StopsSo ends-here (s .number) (placeOf s) (s .transitions)
-      = rw (ap (λ x. x .number) q, ap placeOf q, ap (λ x. x .transitions) q) at a in
+      = rw (ap (λ x. x .number) q, place, ap (λ x. x .transitions) q) at a in
       stop-iff-derived (language w) fuel (framesIn workspace) m (entryCode arguments) (s .number) (placeOf s) (s .transitions) .0 told
 
   stop-from-run : (s : Stop) (o : Result graphs (language w)) → ends-here ≡ o → toldBy τ o ≡ Stopped s → Derives s
@@ -113,7 +130,7 @@ module _ (m : Schedule) (w arguments : List ℕ) (fuel τ workspace : ℕ) where
   unfolding toldBy
   stop-to-run s d =
       let a = stop-iff-derived (language w) fuel (framesIn workspace) m (entryCode arguments) (s .number) (placeOf s) (s .transitions) .1 d in
-      ap (toldBy τ) (a .ends .is) ∙ ap (stopped (s .number) (placeOf s)) (a .transitions-are)
+      ap (toldBy τ) (a .ends .is) ∙ same-stop s refl (omega arith) (omega arith) (a .transitions-are)
 
 module _ (m : Schedule) (w arguments : List ℕ) (fuel N τ workspace : ℕ) where
   abbrev ran-by : Answer
@@ -144,13 +161,24 @@ module _ (m : Schedule) (w arguments : List ℕ) (fuel N τ workspace : ℕ) whe
   refused-by-check f reading.Accepted q = absurd (ran-unrefused τ (outcome graphs (language w) fuel (framesIn workspace) m (entryCode arguments)) f q)
   refused-by-check f (reading.Refused r) q = let e : r ≡ f = cc in ap reading.Refused e
 
+  accepted : {r : Answer} → checkedOf w (length arguments) fuel N τ workspace ≡ reading.Accepted → ran-by ≡ r
+      → answerOf m w arguments fuel N τ workspace ≡ r
+  unfolding answerOf afterCheck
+  accepted e q = rw e q
+
   pub by-schedule : Published m w arguments fuel N τ workspace (answerOf m w arguments fuel N τ workspace)
-  unfolding answerOf afterCheck runOf
+  unfolding answerOf runOf
   by-schedule = record {
-    value-iff = λ v k. (λ e. from-check v k _ refl e, λ c. rw (c .0) (to-run m w arguments fuel τ workspace v k (c .1)));
-    stop-iff = λ s. (λ e. stop-from-check s _ refl e, λ c. rw (c .0) (stop-to-run m w arguments fuel τ workspace s (c .1)));
+    value-iff = λ v k. (
+      λ e. let r = from-check v k _ refl e in ((cc), at-frames (r .1) (omega arith)),
+      λ c. accepted (cc) (to-run m w arguments fuel τ workspace v k (at-frames (c .1) (omega arith))),
+    );
+    stop-iff = λ s. (
+      λ e. let r = stop-from-check s _ refl e in ((cc), r .1),
+      λ c. accepted (cc) (stop-to-run m w arguments fuel τ workspace s (c .1)),
+    );
     stop-none = λ s e. none-checked s _ refl e;
-    refusal-iff = λ f. (λ e. refused-by-check f _ e, λ c. rw c refl);
+    refusal-iff = λ f. (λ e. refused-by-check f _ e, λ c. sym (answer-refused m w arguments fuel N τ workspace f c));
   }
 
 pub demand-2 : DemandTwo
