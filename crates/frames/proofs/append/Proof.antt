@@ -1,5 +1,4 @@
--- `frames::append` meets its contract: its store binds the local, by `appended`. Assumes nothing.
-use Rattle.frames.proofs.Writes.{appended}
+-- `frames::append` meets its contract, which is its store. Assumes nothing.
 use borrow.Author.Needs.{needs}
 use Rattle.frames.proofs.append.Statement.{statement}
 use Rattle.frames.proofs.append.Tie as tie
@@ -14,7 +13,7 @@ same-length : tie.Need-same-length
 same-length c = search needs
 
 returns : tie.Need-returns
-returns c = appended (c .args .locals .now) (c .args .k) (c .args .v) (c .pre .0) (c .pre .1)
+returns c = search needs
 
 pub append-spec : {M : Type 1} → statement M
 append-spec = tie.close (tie.spec mul-locals slice-write-locals same-length returns)
