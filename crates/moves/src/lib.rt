@@ -474,7 +474,8 @@ fn last_argument(
 {
     frames::load_arguments(locals, ws, top, n);
     frames::append(locals, n, v);
-    Step::Go(tick(s, Control::Eval(g, 0, n + 1), top, s.oldest))
+    let count = n + 1;
+    Step::Go(tick(s, Control::Eval(g, 0, count), top, s.oldest))
 }
 
 // An argument of a call.
