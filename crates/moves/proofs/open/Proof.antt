@@ -2,6 +2,9 @@
 use Rattle.moves.specs.declared.Step.the-variants.{Go}
 use Rattle.moves.specs.Ready.Opened.{full}
 use Rattle.moves.specs.Ready.{dry, opens}
+use Prim.Native.Nat.{_/_, _<_, _≤_}
+use lib.ListN.{length}
+use native.Mathlib.Omega.{arith}
 use borrow.Author.Tests.{ltb-true, ltb-false}
 use mathlib.Core.Path.{refl, ap, sym, _∙_}
 use borrow.Author.Needs.{needs}
@@ -39,10 +42,12 @@ same-length : tie.Need-same-length
 same-length c = search needs
 
 returns : tie.Need-returns
-returns c = opens (ltb-true _ _ (sym (c .before .before .before .before .before .before .before .before .before .allows .ensures) ∙ c .before .before .before .before .before .before .before .before .if1 .taken)) (c .before .before .before .before .before .before .before .if2 .taken) (rw (c .before .before .before .before .before .none .ensures) at (c .before .before .before .before .push .ensures)) (ap Go (rw (c .before .rise .ensures) at (c .tick .ensures)))
+returns c = let room : c .before .before .before .before .before .before .before .before .before .before .before .before .before .args .s .depth < length (c .before .before .before .before .before .before .before .before .before .before .before .before .before .args .ws .now) / 32 = omega (arith, c .before .before .before .before .before .before .before .if2 .taken) in
+    opens (ltb-true _ _ (sym (c .before .before .before .before .before .before .before .before .before .allows .ensures) ∙ c .before .before .before .before .before .before .before .before .if1 .taken)) room (rw (c .before .before .before .before .before .none .ensures) at (c .before .before .before .before .push .ensures)) (ap Go (rw (c .before .rise .ensures) at (c .tick .ensures)))
 
 returns-2 : tie.Need-returns-2
-returns-2 c = full (ltb-true _ _ (sym (c .before .before .before .allows .ensures) ∙ c .before .before .if1 .taken)) (c .before .if2 .left) refl (c .halt .ensures)
+returns-2 c = let none : length (c .before .before .before .before .before .before .before .args .ws .now) / 32 ≤ c .before .before .before .before .before .before .before .args .s .depth = omega (arith, c .before .if2 .left) in
+    full (ltb-true _ _ (sym (c .before .before .before .allows .ensures) ∙ c .before .before .if1 .taken)) none refl (c .halt .ensures)
 
 returns-3 : tie.Need-returns-3
 returns-3 c = dry (ltb-false _ _ (sym (c .before .before .allows .ensures) ∙ c .before .if1 .left)) refl (c .halt2 .ensures)
