@@ -1,58 +1,59 @@
--- What each write of a frame leaves in the words: of the frames below, the frame itself, and the locals.
--- A frame is 32 words; that of depth d begins at word 32 * d: kind, function, node, number of saved locals, value, span before the fork,
--- span of the left branch, one word not used, the saved locals from word 8 on and the collected arguments from word 24 on.
--- `ws` are the words before and `ws′` those after. Assumes nothing.
-use Prim.Native.Nat.{ℕ, _+_, _*_, _≤_}
-use mathlib.Core.Path.{_≡_}
-use mathlib.Core.List.{List, [], _∷_, _++_}
-use lib.ListN.{length, getD, take, drop}
+-- What each function leaves in the buffer that it writes: the whole list, as a function of what it held before.
+-- `ws` are the words of the workspace, `ls` the locals; `set` writes one word, and `paste` the first words of a list. Assumes nothing.
+use Prim.Native.Nat.{ℕ, _+_, _*_}
+use mathlib.Core.List.{List}
+use lib.ListN.{set, drop}
+use lib.Seq.{paste}
 
--- A new frame stands at depth d: it has this kind, function and node, saves the first k of the locals `ls`, has the value 0 and this span
--- before the fork. The frames below it and the number of words are as before.
-pub record Pushed (ws ws′ : List ℕ) (d kind function node k : ℕ) (ls : List ℕ) (before : ℕ) : Type 0 where
-  pub below : take (32 * d) ws′ ≡ take (32 * d) ws
-  pub long : length ws′ ≡ length ws
-  pub is-kind : getD ws′ (32 * d) 0 ≡ kind
-  pub is-function : getD ws′ (32 * d + 1) 0 ≡ function
-  pub is-node : getD ws′ (32 * d + 2) 0 ≡ node
-  pub is-count : getD ws′ (32 * d + 3) 0 ≡ k
-  pub is-value : getD ws′ (32 * d + 4) 0 ≡ 0
-  pub is-before : getD ws′ (32 * d + 5) 0 ≡ before
-  pub is-locals : take k (drop (32 * d + 8) ws′) ≡ take k ls
+-- THE LAYOUT of frame d, which is 32 words: where each of its parts stands. Word 7 and the last five are not used.
+abbrev pub kindWord : ℕ → ℕ
+kindWord d = 32 * d
 
--- The frame at depth d has another kind, the value v and the span g of the left branch. The rest of it, all words from its locals on, the
--- frames below and the number of words are as before.
-pub record Turned (ws ws′ : List ℕ) (d kind v g : ℕ) : Type 0 where
-  pub below : take (32 * d) ws′ ≡ take (32 * d) ws
-  pub long : length ws′ ≡ length ws
-  pub is-kind : getD ws′ (32 * d) 0 ≡ kind
-  pub is-function : getD ws′ (32 * d + 1) 0 ≡ getD ws (32 * d + 1) 0
-  pub is-node : getD ws′ (32 * d + 2) 0 ≡ getD ws (32 * d + 2) 0
-  pub is-count : getD ws′ (32 * d + 3) 0 ≡ getD ws (32 * d + 3) 0
-  pub is-value : getD ws′ (32 * d + 4) 0 ≡ v
-  pub is-before : getD ws′ (32 * d + 5) 0 ≡ getD ws (32 * d + 5) 0
-  pub is-branch : getD ws′ (32 * d + 6) 0 ≡ g
-  pub above : drop (32 * d + 8) ws′ ≡ drop (32 * d + 8) ws
+abbrev pub functionWord : ℕ → ℕ
+functionWord d = 32 * d + 1
 
--- The frame at depth d has collected one argument more, v, after the n that it had. Its kind, function, node and saved locals, the frames
--- below and the number of words are as before.
-pub record Collected (ws ws′ : List ℕ) (d n v : ℕ) : Type 0 where
-  pub below : take (32 * d) ws′ ≡ take (32 * d) ws
-  pub long : length ws′ ≡ length ws
-  pub is-kind : getD ws′ (32 * d) 0 ≡ getD ws (32 * d) 0
-  pub is-function : getD ws′ (32 * d + 1) 0 ≡ getD ws (32 * d + 1) 0
-  pub is-node : getD ws′ (32 * d + 2) 0 ≡ getD ws (32 * d + 2) 0
-  pub is-count : getD ws′ (32 * d + 3) 0 ≡ getD ws (32 * d + 3) 0
-  pub is-value : getD ws′ (32 * d + 4) 0 ≡ n + 1
-  pub is-locals : (k : ℕ) → k ≤ 16 → take k (drop (32 * d + 8) ws′) ≡ take k (drop (32 * d + 8) ws)
-  pub is-arguments : take (n + 1) (drop (32 * d + 24) ws′) ≡ take n (drop (32 * d + 24) ws) ++ (v ∷ [])
+abbrev pub nodeWord : ℕ → ℕ
+nodeWord d = 32 * d + 2
 
--- The locals `ls` are sixteen words, the first k of which are the words from `from` on.
-pub record Loaded (ws : List ℕ) (from k : ℕ) (ls : List ℕ) : Type 0 where
-  pub sixteen : length ls ≡ 16
-  pub are : take k ls ≡ take k (drop from ws)
+abbrev pub countWord : ℕ → ℕ
+countWord d = 32 * d + 3
 
--- The locals `ls′` are sixteen words, the first of which are the first k of `ls`, and v after them.
-pub record Appended (ls : List ℕ) (k v : ℕ) (ls′ : List ℕ) : Type 0 where
-  pub sixteen : length ls′ ≡ 16
-  pub are : take (k + 1) ls′ ≡ take k ls ++ (v ∷ [])
+abbrev pub valueWord : ℕ → ℕ
+valueWord d = 32 * d + 4
+
+abbrev pub beforeWord : ℕ → ℕ
+beforeWord d = 32 * d + 5
+
+abbrev pub leftWord : ℕ → ℕ
+leftWord d = 32 * d + 6
+
+abbrev pub localsWord : ℕ → ℕ
+localsWord d = 32 * d + 8
+
+abbrev pub argumentsWord : ℕ → ℕ
+argumentsWord d = 32 * d + 24
+
+-- a new frame d: its kind, function and node, the first k locals with their number, no value yet, and the span before the fork
+unfoldable pub pushed : List ℕ → ℕ → ℕ → ℕ → ℕ → ℕ → List ℕ → ℕ → List ℕ
+pushed ws d kind function node k ls before =
+    paste (set (set (set (set (set (set ws (kindWord d) kind) (functionWord d) function) (nodeWord d) node) (countWord d) k) (valueWord d) 0) (beforeWord d) before) (localsWord d) ls k
+
+-- frame d turned to its second child: another kind, the first child's value and the span of the left branch
+unfoldable pub turned : List ℕ → ℕ → ℕ → ℕ → ℕ → List ℕ
+turned ws d kind v span = set (set (set ws (kindWord d) kind) (valueWord d) v) (leftWord d) span
+
+-- argument n of frame d, and how many it has collected now
+unfoldable pub collected : List ℕ → ℕ → ℕ → ℕ → List ℕ
+collected ws d n v = set (set ws (argumentsWord d + n) v) (valueWord d) (n + 1)
+
+-- frame d promoted: another kind, and the span before the fork
+abbrev pub marked : List ℕ → ℕ → ℕ → ℕ → List ℕ
+marked ws d kind span = set (set ws (kindWord d) kind) (beforeWord d) span
+
+-- k locals brought back from the words from `from` on
+abbrev pub loaded : List ℕ → List ℕ → ℕ → ℕ → List ℕ
+loaded ls ws from k = paste ls 0 (drop from ws) k
+
+-- one local more, after the first k
+abbrev pub appended : List ℕ → ℕ → ℕ → List ℕ
+appended ls k v = set ls k v

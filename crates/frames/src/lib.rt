@@ -14,11 +14,12 @@
 //
 // The words b + 7 and b + 27 to b + 31 are not used. What a kind means is the machine's affair.
 
+use schedule::Span;
 ghost use mathlib.Core.Path.{_≡_};
 ghost use Prim.Native.Nat.{_+_, _*_, _<_, _≤_};
-ghost use lib.ListN.{length, set, drop, replicate};
+ghost use lib.ListN.{length, drop, replicate};
 ghost use lib.Seq.{paste};
-ghost use Rattle.frames.specs.Frames.{Pushed, Turned, Collected, Loaded, Appended};
+ghost use Rattle.frames.specs.Frames.{localsWord, argumentsWord, pushed, turned, collected, marked, loaded, appended};
 
 // Copies n words of `src`, from word `from` on, over those of `dst` from word `at` on, in a loop: compiled to a call of memcpy.
 fn copy_many(dst: &mut [u64], at: usize, src: &[u64], from: usize, n: usize)
@@ -65,10 +66,10 @@ pub fn push(
     node: usize,
     k: usize,
     locals: &[u64],
-    before: u64,
+    before: Span,
 )
-    requires { ⌜ (32 * depth + 32 ≤ length (now ws)) × (k ≤ 16) × (k ≤ length (now locals)) ⌝ }
-    ensures { λ _. ⌜ Pushed (now (ws .entry)) (now (ws .exit)) depth kind function node k (now (locals .entry)) before ⌝ }
+    requires { ⌜ (32 * depth + 32 ≤ length (now ws)) × (k ≤ 16) × (length (now locals) ≡ 16) ⌝ }
+    ensures { λ _. ⌜ now (ws .exit) ≡ pushed (now (ws .entry)) depth kind function node k (now (locals .entry)) (before .0) ⌝ }
 {
     let b = 32 * depth;
     ws[b] = kind;
@@ -76,25 +77,25 @@ pub fn push(
     ws[b + 2] = node as u64;
     ws[b + 3] = k as u64;
     ws[b + 4] = 0;
-    ws[b + 5] = before;
+    ws[b + 5] = before.0;
     copy(ws, b + 8, locals, 0, k);
 }
 
 // Turns frame `top` to its second child: another kind, the first child's value and, at a fork, the span of the left branch.
-pub fn turn(ws: &mut [u64], top: usize, kind: u64, v: u64, span: u64)
+pub fn turn(ws: &mut [u64], top: usize, kind: u64, v: u64, span: Span)
     requires { ⌜ 32 * top + 32 ≤ length (now ws) ⌝ }
-    ensures { λ _. ⌜ Turned (now (ws .entry)) (now (ws .exit)) top kind v span ⌝ }
+    ensures { λ _. ⌜ now (ws .exit) ≡ turned (now (ws .entry)) top kind v (span .0) ⌝ }
 {
     let b = 32 * top;
     ws[b] = kind;
     ws[b + 4] = v;
-    ws[b + 6] = span;
+    ws[b + 6] = span.0;
 }
 
 // Collects v as argument n of frame `top`, which has collected those before it.
 pub fn collect(ws: &mut [u64], top: usize, n: usize, v: u64)
     requires { ⌜ (32 * top + 32 ≤ length (now ws)) × (n < 3) ⌝ }
-    ensures { λ _. ⌜ Collected (now (ws .entry)) (now (ws .exit)) top n v ⌝ }
+    ensures { λ _. ⌜ now (ws .exit) ≡ collected (now (ws .entry)) top n v ⌝ }
 {
     let b = 32 * top;
     ws[b + 24 + n] = v;
@@ -102,19 +103,19 @@ pub fn collect(ws: &mut [u64], top: usize, n: usize, v: u64)
 }
 
 // Promotes frame `at`: another kind, and the span before the fork.
-pub fn mark(ws: &mut [u64], at: usize, kind: u64, span: u64)
+pub fn mark(ws: &mut [u64], at: usize, kind: u64, span: Span)
     requires { ⌜ 32 * at + 32 ≤ length (now ws) ⌝ }
-    ensures { λ _. ⌜ now (ws .exit) ≡ set (set (now (ws .entry)) (32 * at) kind) (32 * at + 5) span ⌝ }
+    ensures { λ _. ⌜ now (ws .exit) ≡ marked (now (ws .entry)) at kind (span .0) ⌝ }
 {
     let b = 32 * at;
     ws[b] = kind;
-    ws[b + 5] = span;
+    ws[b + 5] = span.0;
 }
 
 // Brings the k locals that frame `top` saves back.
 pub fn load(locals: &mut [u64], ws: &[u64], top: usize, k: usize)
     requires { ⌜ (32 * top + 32 ≤ length (now ws)) × (k ≤ 16) × (length (now locals) ≡ 16) ⌝ }
-    ensures { λ _. ⌜ Loaded (now (ws .entry)) (32 * top + 8) k (now (locals .exit)) ⌝ }
+    ensures { λ _. ⌜ now (locals .exit) ≡ loaded (now (locals .entry)) (now (ws .entry)) (localsWord top) k ⌝ }
 {
     let b = 32 * top;
     copy(locals, 0, ws, b + 8, k);
@@ -123,7 +124,7 @@ pub fn load(locals: &mut [u64], ws: &[u64], top: usize, k: usize)
 // Makes the n arguments that frame `top` has collected the first locals.
 pub fn load_arguments(locals: &mut [u64], ws: &[u64], top: usize, n: usize)
     requires { ⌜ (32 * top + 32 ≤ length (now ws)) × (n ≤ 3) × (length (now locals) ≡ 16) ⌝ }
-    ensures { λ _. ⌜ Loaded (now (ws .entry)) (32 * top + 24) n (now (locals .exit)) ⌝ }
+    ensures { λ _. ⌜ now (locals .exit) ≡ loaded (now (locals .entry)) (now (ws .entry)) (argumentsWord top) n ⌝ }
 {
     let b = 32 * top;
     copy(locals, 0, ws, b + 24, n);
@@ -132,7 +133,7 @@ pub fn load_arguments(locals: &mut [u64], ws: &[u64], top: usize, n: usize)
 // Binds one local more, v, after the first k.
 pub fn append(locals: &mut [u64], k: usize, v: u64)
     requires { ⌜ (k < 16) × (length (now locals) ≡ 16) ⌝ }
-    ensures { λ _. ⌜ Appended (now (locals .entry)) k v (now (locals .exit)) ⌝ }
+    ensures { λ _. ⌜ now (locals .exit) ≡ appended (now (locals .entry)) k v ⌝ }
 {
     locals[k] = v;
 }

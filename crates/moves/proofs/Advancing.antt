@@ -18,7 +18,7 @@ use Rattle.moves.specs.declared.Step.{Step}
 use Rattle.moves.specs.declared.Step.the-variants.{Go}
 use Rattle.moves.specs.Layout.{stateOf, resultOf}
 use Rattle.moves.specs.Ready.{Ready, KeptBy, Stepped, Advanced, Promoted}
-use Rattle.moves.proofs.Promotion.{due-is}
+use Rattle.moves.proofs.Promotion.{due-is, promote-told}
 
 and-right : (a b : Bool) → (a && b) ≡ true → b ≡ true
 and-right true b e = e
@@ -38,7 +38,7 @@ module _ (w ws ls : List ℕ) (plan : Plan) (s : Registers) (r : Ready w ws ls p
       → (ws′ : List ℕ) → length ws′ ≡ length ws → (next : Registers) → Promoted ws s ws′ next → Advanced w ws ls plan s ws′ ls (Go next)
   unfolding step-by resultOf KeptBy
   advanced-promote b e t ws′ long next u =
-      let x = u .told w (r .kept .table) (r .kept .held) (r .kept .oldest) in
+      let x = promote-told ws ws′ s next (r .kept .room) (promote-ready b e t .1) u w (r .kept .table) (r .kept .held) (r .kept .oldest) in
       let d : next .depth ≡ s .depth = ap (λ (y : Registers). y .depth) (u .registers) in
       let c : next .control ≡ s .control = ap (λ (y : Registers). y .control) (u .registers) in
       let q : (leb (plan .period) (s .credits .0) && ltb (s .oldest) (s .depth)) ≡ true = sym e ∙ t in

@@ -2,7 +2,8 @@
 --     due-is          whether a fork can be promoted is one comparison
 --     promoted        the slots and what the table assures of them, after a promotion
 --     oldest-next     the oldest plain fork after it
---     promote-told    the two together
+--     promotes        what `promote` leaves
+--     promote-told    and what that tells
 use Prim.Native.Nat.{ℕ, zero, suc, _+_, _*_, _<_, _≤_}
 use mathlib.Core.Path.{_≡_, refl, sym, ap, _∙_}
 use mathlib.Core.List.{List, _∷_}
@@ -15,6 +16,7 @@ use lib.Seq.{getD-set-same, getD-set-other, drop-set-lt}
 use borrow.Author.Tests.{lt-ltb, le-ltb}
 use Rattle.schedule.specs.Machine.{Slot, plain-left, promoted-left, promotable, promote}
 use Rattle.table.specs.WellFormed.{WellFormed}
+use Rattle.frames.specs.Frames.{marked}
 use Rattle.language.specs.Language.{Code, Frame}
 use Rattle.moves.specs.Layout.{codeAt, argumentsAt, slotOf, slotAt, stackOf, restarted}
 use Rattle.moves.specs.Ready.{FittingAt, Held, Oldest, Found, Promoted}
@@ -104,17 +106,14 @@ due-is ws d o r = at (decLt o d)
     at (no l) = let m : d ≤ o = omega arith in rw (le-ltb o d m) (none-able ws d (λ j a. r .below j a (omega arith)))
 
 -- THE WORDS AFTER A PROMOTION of frame o, with the span g before it
-abbrev pub marked : List ℕ → ℕ → ℕ → List ℕ
-marked ws o g = set (set ws (32 * o) 7) (32 * o + 5) g
-
 module _ (ws : List ℕ) (o g : ℕ) where
-  word : (i : ℕ) → (i ≡ 32 * o → ⊥) → (i ≡ 32 * o + 5 → ⊥) → getD (marked ws o g) i 0 ≡ getD ws i 0
+  word : (i : ℕ) → (i ≡ 32 * o → ⊥) → (i ≡ 32 * o + 5 → ⊥) → getD (marked ws o 7 g) i 0 ≡ getD ws i 0
   word i a b = getD-set-other (set ws (32 * o) 7) (32 * o + 5) i g 0 b ∙ getD-set-other ws (32 * o) i 7 0 a
 
-  kind-here : 32 * o + 32 ≤ length ws → getD (marked ws o g) (32 * o) 0 ≡ 7
+  kind-here : 32 * o + 32 ≤ length ws → getD (marked ws o 7 g) (32 * o) 0 ≡ 7
   kind-here h = getD-set-other (set ws (32 * o) 7) (32 * o + 5) (32 * o) g 0 (omega arith) ∙ getD-set-same ws (32 * o) 7 0 (omega arith)
 
-  this-slot : 32 * o + 32 ≤ length ws → slotAt (marked ws o g) (32 * o) ≡ promoted-left g (codeAt ws (32 * o))
+  this-slot : 32 * o + 32 ≤ length ws → slotAt (marked ws o 7 g) (32 * o) ≡ promoted-left g (codeAt ws (32 * o))
   this-slot h = promoted-left-is _ _ _ _ _ _ (kind-here h)
       ∙ rw (
         word (32 * o + 1) (omega arith) (omega arith),
@@ -126,10 +125,10 @@ module _ (ws : List ℕ) (o g : ℕ) where
       )
 
   module _ (w : List ℕ) (table : WellFormed w) where
-    other-slot : (m : ℕ) → 32 * m + 32 ≤ length ws → FittingAt w ws (32 * m) → (m ≡ o → ⊥) → (slotAt ws (32 * m) ≡ slotAt (marked ws o g) (32 * m)) × FittingAt w (marked ws o g) (32 * m)
-    other-slot m h t n = slot-agrees w ws (marked ws o g) table (simp length-set) (32 * m) h (λ i a b. sym (word i (omega arith) (omega arith))) t
+    other-slot : (m : ℕ) → 32 * m + 32 ≤ length ws → FittingAt w ws (32 * m) → (m ≡ o → ⊥) → (slotAt ws (32 * m) ≡ slotAt (marked ws o 7 g) (32 * m)) × FittingAt w (marked ws o 7 g) (32 * m)
+    other-slot m h t n = slot-agrees w ws (marked ws o 7 g) table (simp length-set) (32 * m) h (λ i a b. sym (word i (omega arith) (omega arith))) t
 
-    unchanged : (d : ℕ) → 32 * d ≤ length ws → Held w ws d → d ≤ o → (stackOf ws d ≡ stackOf (marked ws o g) d) × Held w (marked ws o g) d
+    unchanged : (d : ℕ) → 32 * d ≤ length ws → Held w ws d → d ≤ o → (stackOf ws d ≡ stackOf (marked ws o 7 g) d) × Held w (marked ws o 7 g) d
     unfolding stackOf Held
     unchanged zero h t l = (refl, tt)
     unchanged (suc d) h t l =
@@ -138,15 +137,15 @@ module _ (ws : List ℕ) (o g : ℕ) where
         (rw (one .0, rest .0), (one .1, rest .1))
 
     module _ (is : getD ws (32 * o) 0 ≡ 5) (n : (j : ℕ) → j < o → getD ws (32 * j) 0 ≡ 5 → ⊥) where
-      this-top : 32 * o + 32 ≤ length ws → FittingAt w ws (32 * o) → FittingAt w (marked ws o g) (32 * o)
+      this-top : 32 * o + 32 ≤ length ws → FittingAt w ws (32 * o) → FittingAt w (marked ws o 7 g) (32 * o)
       this-top h t = record {
         stands = rw (word (32 * o + 1) (omega arith) (omega arith), word (32 * o + 2) (omega arith) (omega arith), word (32 * o + 3) (omega arith) (omega arith)) (t .stands);
         tag = rw (kind-here h, word (32 * o + 1) (omega arith) (omega arith), word (32 * o + 2) (omega arith) (omega arith)) (rw is at (t .tag));
         awaits = λ k. absurd (omega (arith, kind-here h));
       }
 
-      one-more : (d : ℕ) → Plain ws o (suc d) → (32 * d ≤ length ws → Held w ws d → o < d → (stackOf (marked ws o g) d ≡ promote g (stackOf ws d)) × Held w (marked ws o g) d)
-          → 32 * suc d ≤ length ws → Held w ws (suc d) → o < suc d → Dec (o < d) → (stackOf (marked ws o g) (suc d) ≡ promote g (stackOf ws (suc d))) × Held w (marked ws o g) (suc d)
+      one-more : (d : ℕ) → Plain ws o (suc d) → (32 * d ≤ length ws → Held w ws d → o < d → (stackOf (marked ws o 7 g) d ≡ promote g (stackOf ws d)) × Held w (marked ws o 7 g) d)
+          → 32 * suc d ≤ length ws → Held w ws (suc d) → o < suc d → Dec (o < d) → (stackOf (marked ws o 7 g) (suc d) ≡ promote g (stackOf ws (suc d))) × Held w (marked ws o 7 g) (suc d)
       unfolding promote stackOf Held
       one-more d up ih h t l (yes m) =
           let one = other-slot d (omega arith) (t .0) (omega arith) in
@@ -158,13 +157,13 @@ module _ (ws : List ℕ) (o g : ℕ) where
           let t′ : FittingAt w ws (32 * o) × Held w ws o = rw e at t in
           let rest = unchanged o (omega arith) (t′ .1) (omega arith) in
           let x : slotAt ws (32 * o) ≡ plain-left (codeAt ws (32 * o)) = plain-left-is _ _ _ _ _ _ is in
-          rw e (rw (x, none-able ws o n, rest .0) (ap (λ (y : Slot ℕ Frame Code). y ∷ stackOf (marked ws o g) o) (this-slot h′)), (this-top h′ (t′ .0), rest .1))
+          rw e (rw (x, none-able ws o n, rest .0) (ap (λ (y : Slot ℕ Frame Code). y ∷ stackOf (marked ws o 7 g) o) (this-slot h′)), (this-top h′ (t′ .0), rest .1))
 
-      pub promoted : (d : ℕ) → Plain ws o d → 32 * d ≤ length ws → Held w ws d → o < d → (stackOf (marked ws o g) d ≡ promote g (stackOf ws d)) × Held w (marked ws o g) d
+      pub promoted : (d : ℕ) → Plain ws o d → 32 * d ≤ length ws → Held w ws d → o < d → (stackOf (marked ws o 7 g) d ≡ promote g (stackOf ws d)) × Held w (marked ws o 7 g) d
       promoted zero up h t l = absurd (omega arith)
       promoted (suc d) up h t l = one-more d up (promoted d (λ j a b. up j a (omega arith))) h t l (decLt o d)
 
-  pub oldest-next : (d r : ℕ) → Oldest ws d o → 32 * d ≤ length ws → o < d → Found (marked ws o g) (o + 1) d r → Oldest (marked ws o g) d r
+  pub oldest-next : (d r : ℕ) → Oldest ws d o → 32 * d ≤ length ws → o < d → Found (marked ws o 7 g) (o + 1) d r → Oldest (marked ws o 7 g) d r
   oldest-next d r old h l f = record {
     below = λ j a b x. at j a b x (decLt j o) (decLt o j);
     is = f .is;
@@ -172,21 +171,23 @@ module _ (ws : List ℕ) (o g : ℕ) where
     past = λ j a b. up j a b (decLt j o) (decLt o j);
   }
     where
-      at : (j : ℕ) → j < d → j < r → getD (marked ws o g) (32 * j) 0 ≡ 5 → Dec (j < o) → Dec (o < j) → ⊥
+      at : (j : ℕ) → j < d → j < r → getD (marked ws o 7 g) (32 * j) 0 ≡ 5 → Dec (j < o) → Dec (o < j) → ⊥
       at j a b x (yes p) q = old .below j a p (sym (word (32 * j) (omega arith) (omega arith)) ∙ x)
       at j a b x (no p) (yes q) = f .below j (omega arith) a b x
-      at j a b x (no p) (no q) = let y : j ≡ o = omega arith in let z : getD (marked ws o g) (32 * o) 0 ≡ 5 = rw y at x in omega (arith, kind-here (omega arith))
+      at j a b x (no p) (no q) = let y : j ≡ o = omega arith in let z : getD (marked ws o 7 g) (32 * o) 0 ≡ 5 = rw y at x in omega (arith, kind-here (omega arith))
 
-      up : (j : ℕ) → j < d → 7 ≤ getD (marked ws o g) (32 * j) 0 → Dec (j < o) → Dec (o < j) → j < r
+      up : (j : ℕ) → j < d → 7 ≤ getD (marked ws o 7 g) (32 * j) 0 → Dec (j < o) → Dec (o < j) → j < r
       up j a b (yes p) q = omega (arith, f .after)
       up j a b (no p) (yes q) = omega (arith, old .past j a (omega (arith, word (32 * j) (omega arith) (omega arith))))
       up j a b (no p) (no q) = omega (arith, f .after)
 
-pub promote-told : (ws ws′ : List ℕ) (s r : Registers) (next : ℕ) → 32 * s .depth ≤ length ws → s .oldest < s .depth → ws′ ≡ marked ws (s .oldest) (s .span .0)
-    → Found ws′ (s .oldest + 1) (s .depth) next → r ≡ restarted s (s .control) (s .depth) next 0 (s .forks + 1) → Promoted ws s ws′ r
-promote-told ws ws′ s r next h l e f u = rw (e, u) (record {
-  registers = refl;
-  told = λ w table t o.
-      let x = promoted ws (s .oldest) (s .span .0) w table (o .is l) (λ j a. o .below j (omega arith) a) (s .depth) (plain ws (s .oldest) (s .depth) o) h t l in
-      (x .0, (x .1, oldest-next ws (s .oldest) (s .span .0) (s .depth) next o h l (rw e at f)));
-})
+pub promotes : (ws ws′ : List ℕ) (s r : Registers) (next : ℕ) → ws′ ≡ marked ws (s .oldest) 7 (s .span .0) → Found ws′ (s .oldest + 1) (s .depth) next
+    → r ≡ restarted s (s .control) (s .depth) next 0 (s .forks + 1) → Promoted ws s ws′ r
+promotes ws ws′ s r next e f u = rw u (record { words = e; registers = refl; next = f })
+
+pub promote-told : (ws ws′ : List ℕ) (s r : Registers) → 32 * s .depth ≤ length ws → s .oldest < s .depth → Promoted ws s ws′ r
+    → (w : List ℕ) → WellFormed w → Held w ws (s .depth) → Oldest ws (s .depth) (s .oldest)
+    → (stackOf ws′ (s .depth) ≡ promote (s .span .0) (stackOf ws (s .depth))) × (Held w ws′ (s .depth) × Oldest ws′ (s .depth) (r .oldest))
+promote-told ws ws′ s r h l p w table t o =
+    let x = promoted ws (s .oldest) (s .span .0) w table (o .is l) (λ j a. o .below j (omega arith) a) (s .depth) (plain ws (s .oldest) (s .depth) o) h t l in
+    rw (p .words) (x .0, (x .1, oldest-next ws (s .oldest) (s .span .0) (s .depth) (r .oldest) o h l (rw (p .words) at (p .next))))

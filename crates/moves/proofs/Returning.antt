@@ -1,10 +1,10 @@
 -- What a value that returns to a frame tells: the flat machine's move of the state that the words held is the state that they hold.
 use Prim.Native.Nat.{ℕ, zero, suc, _+_, _-_, _*_, _/_, _<_, _≤_, _^_, max}
-use mathlib.Core.Path.{_≡_, refl, sym, _∙_}
+use mathlib.Core.Path.{_≡_, refl, sym, ap, _∙_}
 use mathlib.Core.Bool.{Bool, true, false, cond}
 use mathlib.Core.List.{List, [], _∷_, _++_}
 use native.Mathlib.Omega.{arith}
-use lib.ListN.{length, getD, drop, length-drop, length-append, List·getD-eq-default}
+use lib.ListN.{length, getD, take, drop, length-drop, length-append, List·getD-eq-default}
 use lib.Seq.{length-take-le}
 use lib.Dec.{ltb, eqb}
 use borrow.Author.Tests.{lt-ltb, le-ltb}
@@ -16,7 +16,8 @@ use Rattle.schedule.specs.Bounds.{total, kept-spans}
 use Rattle.table.specs.Words.{functions, arityAt, startOf, tagAt, aAt, bAt}
 use Rattle.table.specs.Nodes.{nodeAt}
 use Rattle.table.specs.Read.{startsOf}
-use Rattle.frames.specs.Frames.{Turned, Collected, Loaded, Appended}
+use Rattle.frames.specs.Frames.{turned, collected, loaded, appended}
+use Rattle.frames.proofs.Writes.{Turned, Collected, Loaded, is-turned, is-collected, is-loaded, is-appended}
 use Rattle.table.specs.declared.Operation.{Operation}
 use Rattle.table.specs.declared.Node.the-variants.{Arithmetic}
 use Rattle.arithmetic.specs.declared.Computed.{Computed}
@@ -33,6 +34,7 @@ use Rattle.moves.specs.declared.Step.the-variants.{Go, Value}
 use Rattle.moves.specs.Layout.{codeAt, argumentsAt, slots, slotOf, slotAt, stackOf, controlOf, runCountsOf, stateOf, resultOf, ticked, restarted, oldestWithout, halted}
 use Rattle.moves.specs.Ready.{Stands, tagOf, Fitting, FittingAt, Held, Controlled, Oldest, Kept, Ready, Paid, KeptBy, Stepped, Returns, Sitting, Child, Concluded, Operand, calledAt, stepOf, operationOf, operation, Resumed, resumes, stays}
 use Rattle.moves.proofs.Nodes.{start-is, arithmetic-in, operation-in, choose-in, let-in, both-in, called-in, argument-later, enter}
+use Rattle.moves.proofs.Frames.{frame-locals, body-locals}
 use Rattle.moves.proofs.Stacks.{stack-more, held-more, held-top, same-slots, few-arguments}
 use Rattle.moves.proofs.OldestFork.{oldest-other, oldest-under, oldest-without, without-none}
 
@@ -70,11 +72,11 @@ module _ (w ws ls : List ℕ) (plan : Plan) (s : Registers) (v t kind : ℕ) (q 
   pub sitting : Sitting w ws ls t
   sitting = record { table = r .kept .table; room = room; sixteen = r .kept .sixteen; stands = top .stands }
 
-  pub sitting-turned : (kind′ g : ℕ) (ws′ : List ℕ) → length ws′ ≡ length ws → Turned ws ws′ t kind′ v g → Sitting w ws′ ls t
-  sitting-turned kind′ g ws′ long u = record { table = r .kept .table; room = omega (arith, room); sixteen = r .kept .sixteen; stands = rw (u .is-function, u .is-node, u .is-count) (top .stands) }
+  pub sitting-turned : (kind′ g : ℕ) (ws′ : List ℕ) → length ws′ ≡ length ws → ws′ ≡ turned ws t kind′ v g → Sitting w ws′ ls t
+  sitting-turned kind′ g ws′ long e = let u = is-turned ws ws′ t room kind′ v g e in record { table = r .kept .table; room = omega (arith, room); sixteen = r .kept .sixteen; stands = rw (u .is-function, u .is-node, u .is-count) (top .stands) }
 
-  pub sitting-collected : (n : ℕ) (ws′ : List ℕ) → length ws′ ≡ length ws → Collected ws ws′ t n v → Sitting w ws′ ls t
-  sitting-collected n ws′ long u = record { table = r .kept .table; room = omega (arith, room); sixteen = r .kept .sixteen; stands = rw (u .is-function, u .is-node, u .is-count) (top .stands) }
+  pub sitting-collected : (n : ℕ) → n < 3 → (ws′ : List ℕ) → length ws′ ≡ length ws → ws′ ≡ collected ws t n v → Sitting w ws′ ls t
+  sitting-collected n few ws′ long e = let u = is-collected ws ws′ t room n v few e in record { table = r .kept .table; room = omega (arith, room); sixteen = r .kept .sixteen; stands = rw (u .is-function, u .is-node, u .is-count) (top .stands) }
 
   -- the same at the kind that it is
   pub kind-is : (j : ℕ) → kind ≡ j → Returns w ws ls plan s v t j
@@ -128,25 +130,34 @@ module _ (w ws ls : List ℕ) (plan : Plan) (s : Registers) (v t kind : ℕ) (q 
   closed ls′ c d x l h k m n u = rw u (record { same = returned ∙ m ∙ rw x; kept = closed-kept ls′ c l h k })
 
   -- a child of the frame's node, with the frame's locals
-  module _ (last : Bool) (ls′ : List ℕ) (seat : Seat) (h : Child w ws (32 * t) last ls′ seat) where
+  module _ (last : Bool) (ls′ : List ℕ) (seat : Seat) (h : Child w ws ls (32 * t) last ls′ seat) where
+    child-locals : Loaded ws (32 * t + 8) (getD ws (32 * t + 3) 0) ls′
+    child-locals = frame-locals w ws ls t sitting ls′ (h .locals)
+
     child-code : controlOf (Eval (seat .function) (seat .node) (seat .count)) ls′ ≡ evaluate (at code (cond last (third w code) (second w code)) (code .locals))
     unfolding controlOf
-    child-code = rw (h .seat, h .loaded .are)
+    child-code = rw (h .seat, child-locals .are)
 
   -- a frame turned to its second child
-  module _ (kind′ g : ℕ) (ws′ ls′ : List ℕ) (seat : Seat) (long : length ws′ ≡ length ws) (u : Turned ws ws′ t kind′ v g) (h : Child w ws′ (32 * t) false ls′ seat) where
+  module _ (kind′ g : ℕ) (ws′ ls′ : List ℕ) (seat : Seat) (long : length ws′ ≡ length ws) (e : ws′ ≡ turned ws t kind′ v g) (h : Child w ws′ ls (32 * t) false ls′ seat) where
+    turned-words : Turned ws ws′ t kind′ v g
+    turned-words = is-turned ws ws′ t room kind′ v g e
+
+    turned-locals : Loaded ws′ (32 * t + 8) (getD ws′ (32 * t + 3) 0) ls′
+    turned-locals = frame-locals w ws′ ls t (sitting-turned kind′ g ws′ long e) ls′ (h .locals)
+
     turned-below : (stackOf ws t ≡ stackOf ws′ t) × Held w ws′ t
-    turned-below = same-slots w ws ws′ (r .kept .table) long t (sym (u .below)) (omega (arith, room)) rest
+    turned-below = same-slots w ws ws′ (r .kept .table) long t (sym (turned-words .below)) (omega (arith, room)) rest
 
     turned-code : controlOf (Eval (seat .function) (seat .node) (seat .count)) ls′ ≡ evaluate (at code (second w code) (code .locals))
     unfolding controlOf
-    turned-code = rw (h .seat, h .loaded .are, u .is-function, u .is-node, u .is-count, u .above)
+    turned-code = rw (h .seat, turned-locals .are, turned-words .is-function, turned-words .is-node, turned-words .is-count, turned-words .above)
 
     turned-stack : (x : Slot ℕ Frame Code) → ((vs : List ℕ) → slotOf kind′ code v vs (getD ws (32 * t + 5) 0) g ≡ x) → stackOf ws′ (t + 1) ≡ x ∷ stackOf ws t
-    turned-stack x e =
+    turned-stack x k =
         let y : slotAt ws′ (32 * t) ≡ slotOf kind′ code v (argumentsAt ws′ (32 * t)) (getD ws (32 * t + 5) 0) g =
-        rw (u .is-kind, u .is-function, u .is-node, u .is-count, u .is-value, u .is-before, u .is-branch, u .above) in
-        sym (stack-more ws′ t) ∙ rw (y, e (argumentsAt ws′ (32 * t)), turned-below .0)
+        rw (turned-words .is-kind, turned-words .is-function, turned-words .is-node, turned-words .is-count, turned-words .is-value, turned-words .is-before, turned-words .is-branch, turned-words .above) in
+        sym (stack-more ws′ t) ∙ rw (y, k (argumentsAt ws′ (32 * t)), turned-below .0)
 
     turned-kept : (o : ℕ) → Fitting w kind′ (getD ws (32 * t + 1) 0) (getD ws (32 * t + 2) 0) (getD ws (32 * t + 3) 0) v
         → Stands w (getD ws (32 * t + 1) 0) (second w code) (getD ws (32 * t + 3) 0) → Oldest ws′ (t + 1) o → (plan .birth ≡ true → o ≡ 4096)
@@ -154,17 +165,17 @@ module _ (w ws ls : List ℕ) (plan : Plan) (s : Registers) (v t kind : ℕ) (q 
     unfolding Controlled
     turned-kept o ok child old bo = record {
       table = r .kept .table;
-      sixteen = h .loaded .sixteen;
+      sixteen = turned-locals .sixteen;
       room = omega (arith, room);
-      held = held-more w ws′ t (rw (u .is-kind, u .is-function, u .is-node, u .is-count, u .is-value) ok) (turned-below .1);
-      control = rw (h .seat, u .is-function, u .is-node, u .is-count) child;
+      held = held-more w ws′ t (rw (turned-words .is-kind, turned-words .is-function, turned-words .is-node, turned-words .is-count, turned-words .is-value) ok) (turned-below .1);
+      control = rw (h .seat, turned-words .is-function, turned-words .is-node, turned-words .is-count) child;
       oldest = old;
       born = bo;
     }
 
     oldest-turned : (kind ≡ 5 → ⊥) → (kind′ ≡ 5 → ⊥) → (7 ≤ kind′ → 7 ≤ kind) → Oldest ws′ (t + 1) (s .oldest)
-    oldest-turned a c m = oldest-other ws ws′ t (sym (u .below)) (s .oldest) small (oldest-under ws t (s .oldest) oldest-here (λ z. a (sym (q .of-kind) ∙ z))) (λ x. c (sym (u .is-kind) ∙ x))
-        (λ x. oldest-here .past t (omega arith) (omega (arith, q .of-kind, m (omega (arith, u .is-kind)))))
+    oldest-turned a c m = oldest-other ws ws′ t (sym (turned-words .below)) (s .oldest) small (oldest-under ws t (s .oldest) oldest-here (λ z. a (sym (q .of-kind) ∙ z))) (λ x. c (sym (turned-words .is-kind) ∙ x))
+        (λ x. oldest-here .past t (omega arith) (omega (arith, q .of-kind, m (omega (arith, turned-words .is-kind)))))
 
 -- the last of the plain kinds
 low-kinds : (n : ℕ) → (n ≡ 0 → ⊥) → (n ≡ 1 → ⊥) → (n ≡ 2 → ⊥) → 3 ≤ n
@@ -189,7 +200,7 @@ either w f k x y false a c = c
 
 module _ (w ws ls : List ℕ) (plan : Plan) (s : Registers) (v t : ℕ) where
   -- a left operand, or a left value: the frame turns
-  pub stepped-left-operand : (q : Returns w ws ls plan s v t 0) → Paid plan s → (ws′ ls′ : List ℕ) (seat : Seat) → length ws′ ≡ length ws → Turned ws ws′ t 1 v 0 → Child w ws′ (32 * t) false ls′ seat
+  pub stepped-left-operand : (q : Returns w ws ls plan s v t 0) → Paid plan s → (ws′ ls′ : List ℕ) (seat : Seat) → length ws′ ≡ length ws → ws′ ≡ turned ws t 1 v 0 → Child w ws′ ls (32 * t) false ls′ seat
       → (n : Registers) → n ≡ ticked s (Eval (seat .function) (seat .node) (seat .count)) (t + 1) (s .oldest) → Stepped w ws ls plan s ws′ ls′ (Go n)
   unfolding slotOf arrive resultOf KeptBy
   stepped-left-operand q paid ws′ ls′ seat long u h n e =
@@ -203,10 +214,11 @@ module _ (w ws ls : List ℕ) (plan : Plan) (s : Registers) (v t : ℕ) where
             (oldest-turned w ws ls plan s v t 0 q 1 0 ws′ ls′ seat long u h (λ z. omega arith) (λ z. omega arith) (λ z. absurd (omega arith))) (q .ready .kept .born);
       })
 
-  pub stepped-plain-left : (q : Returns w ws ls plan s v t 5) → Paid plan s → (ws′ ls′ : List ℕ) (seat : Seat) → length ws′ ≡ length ws → Turned ws ws′ t 6 v 0 → Child w ws′ (32 * t) false ls′ seat
+  pub stepped-plain-left : (q : Returns w ws ls plan s v t 5) → Paid plan s → (ws′ ls′ : List ℕ) (seat : Seat) → length ws′ ≡ length ws → ws′ ≡ turned ws t 6 v 0 → Child w ws′ ls (32 * t) false ls′ seat
       → (o : ℕ) → o ≡ oldestWithout (s .oldest) t → (n : Registers) → n ≡ ticked s (Eval (seat .function) (seat .node) (seat .count)) (t + 1) o → Stepped w ws ls plan s ws′ ls′ (Go n)
   unfolding slotOf move with-fuel resultOf KeptBy
   stepped-plain-left q paid ws′ ls′ seat long u h o m n e =
+      let x = turned-words w ws ls plan s v t 5 q 6 0 ws′ ls′ seat long u h in
       let tag = tag-here w ws ls plan s v t 5 q in
       let fit = top w ws ls plan s v t 5 q in
       let table = q .ready .kept .table in
@@ -214,11 +226,11 @@ module _ (w ws ls : List ℕ) (plan : Plan) (s : Registers) (v t : ℕ) where
         same = returned w ws ls plan s v t 5 q
             ∙ rw (lt-ltb _ _ paid, turned-code w ws ls plan s v t 5 q 6 0 ws′ ls′ seat long u h, turned-stack w ws ls plan s v t 5 q 6 0 ws′ ls′ seat long u h (plain-right (codeAt ws (32 * t)) v) (λ vs. refl));
         kept = turned-kept w ws ls plan s v t 5 q 6 0 ws′ ls′ seat long u h (oldestWithout (s .oldest) t) (record { stands = fit .stands; tag = tag; awaits = λ y. absurd (omega arith) }) (both-in w table (fit .stands) tag .2)
-            (oldest-other ws ws′ t (sym (u .below)) (oldestWithout (s .oldest) t) (small w ws ls plan s v t 5 q) (oldest-without ws t (s .oldest) (small w ws ls plan s v t 5 q) (oldest-here w ws ls plan s v t 5 q)) (λ z. omega (arith, u .is-kind)) (λ z. absurd (omega (arith, u .is-kind))))
+            (oldest-other ws ws′ t (sym (x .below)) (oldestWithout (s .oldest) t) (small w ws ls plan s v t 5 q) (oldest-without ws t (s .oldest) (small w ws ls plan s v t 5 q) (oldest-here w ws ls plan s v t 5 q)) (λ z. omega (arith, x .is-kind)) (λ z. absurd (omega (arith, x .is-kind))))
             (λ z. without-none (s .oldest) t (q .ready .kept .born z));
       })
 
-  pub stepped-turn : (q : Returns w ws ls plan s v t 7) → (ws′ ls′ : List ℕ) (seat : Seat) → length ws′ ≡ length ws → Turned ws ws′ t 8 v (s .span .0) → Child w ws′ (32 * t) false ls′ seat
+  pub stepped-turn : (q : Returns w ws ls plan s v t 7) → (ws′ ls′ : List ℕ) (seat : Seat) → length ws′ ≡ length ws → ws′ ≡ turned ws t 8 v (s .span .0) → Child w ws′ ls (32 * t) false ls′ seat
       → (n : Registers) → n ≡ restarted s (Eval (seat .function) (seat .node) (seat .count)) (t + 1) (s .oldest) 0 (s .forks) → Stepped w ws ls plan s ws′ ls′ (Go n)
   unfolding slotOf move resultOf KeptBy
   stepped-turn q ws′ ls′ seat long u h n e =
@@ -232,12 +244,12 @@ module _ (w ws ls : List ℕ) (plan : Plan) (s : Registers) (v t : ℕ) where
             (oldest-turned w ws ls plan s v t 7 q 8 (s .span .0) ws′ ls′ seat long u h (λ z. omega arith) (λ z. omega arith) (λ z. omega arith)) (q .ready .kept .born);
       })
 
-  pub stepped-condition : (q : Returns w ws ls plan s v t 2) → Paid plan s → (ls′ : List ℕ) (seat : Seat) → Child w ws (32 * t) (eqb v 0) ls′ seat
+  pub stepped-condition : (q : Returns w ws ls plan s v t 2) → Paid plan s → (ls′ : List ℕ) (seat : Seat) → Child w ws ls (32 * t) (eqb v 0) ls′ seat
       → (n : Registers) → n ≡ ticked s (Eval (seat .function) (seat .node) (seat .count)) t (s .oldest) → Stepped w ws ls plan s ws ls′ (Go n)
   unfolding slotOf arrive Controlled
   stepped-condition q paid ls′ seat h n e =
       let a = choose-in w (q .ready .kept .table) (top w ws ls plan s v t 2 q .stands) (tag-here w ws ls plan s v t 2 q) in
-      closed w ws ls plan s v t 2 q ls′ (Eval (seat .function) (seat .node) (seat .count)) _ (child-code w ws ls plan s v t 2 q (eqb v 0) ls′ seat h) (h .loaded .sixteen)
+      closed w ws ls plan s v t 2 q ls′ (Eval (seat .function) (seat .node) (seat .count)) _ (child-code w ws ls plan s v t 2 q (eqb v 0) ls′ seat h) (child-locals w ws ls plan s v t 2 q (eqb v 0) ls′ seat h .sixteen)
       (rw (h .seat) (either w _ _ _ _ (eqb v 0) (a .2) (a .1))) (λ x. omega arith) (closes w ws ls plan s v t 2 q paid (condition (codeAt ws (32 * t))) _ refl) n e
 
   pub binding-few : (q : Returns w ws ls plan s v t 3) → getD ws (32 * t + 3) 0 + 1 ≤ 16
@@ -246,31 +258,37 @@ module _ (w ws ls : List ℕ) (plan : Plan) (s : Registers) (v t : ℕ) where
   pub plain-few : (q : Returns w ws ls plan s v t 6) → getD ws (32 * t + 3) 0 + 2 ≤ 16
   plain-few q = both-in w (q .ready .kept .table) (top w ws ls plan s v t 6 q .stands) (tag-here w ws ls plan s v t 6 q) .0
 
-  pub stepped-binding : (q : Returns w ws ls plan s v t 3) → Paid plan s → (ls₁ ls₂ : List ℕ) (seat : Seat) → Child w ws (32 * t) false ls₁ seat → Appended ls₁ (seat .count) v ls₂
+  pub stepped-binding : (q : Returns w ws ls plan s v t 3) → Paid plan s → (ls₁ ls₂ : List ℕ) (seat : Seat) → Child w ws ls (32 * t) false ls₁ seat → ls₂ ≡ appended ls₁ (seat .count) v
       → (n : Registers) → n ≡ ticked s (Eval (seat .function) (seat .node) (seat .count + 1)) t (s .oldest) → Stepped w ws ls plan s ws ls₂ (Go n)
   unfolding slotOf arrive Controlled controlOf
-  stepped-binding q paid ls₁ ls₂ seat h a n e =
+  stepped-binding q paid ls₁ ls₂ seat h x n e =
+      let l = child-locals w ws ls plan s v t 3 q false ls₁ seat h in
+      let k : seat .count ≡ getD ws (32 * t + 3) 0 = ap (λ (z : Seat). z .count) (h .seat) in
+      let a = is-appended ls₁ ls₂ (seat .count) v (omega (arith, binding-few q)) (l .sixteen) x in
       let b = let-in w (q .ready .kept .table) (top w ws ls plan s v t 3 q .stands) (tag-here w ws ls plan s v t 3 q) in
-      closed w ws ls plan s v t 3 q ls₂ (Eval (seat .function) (seat .node) (seat .count + 1)) _ (rw (a .are, h .seat, h .loaded .are)) (a .sixteen)
+      closed w ws ls plan s v t 3 q ls₂ (Eval (seat .function) (seat .node) (seat .count + 1)) _ (rw (a .are, h .seat, l .are)) (a .sixteen)
       (rw (h .seat) (b .2)) (λ x. omega arith) (closes w ws ls plan s v t 3 q paid (binding (codeAt ws (32 * t))) _ refl) n e
 
   -- the body of a fork's node
-  module _ (kind : ℕ) (q : Returns w ws ls plan s v t kind) (up : 6 ≤ kind) (ls′ : List ℕ) (c : Control) (h : Concluded w ws (32 * t) v ls′ c) where
+  module _ (kind : ℕ) (q : Returns w ws ls plan s v t kind) (up : 6 ≤ kind) (few : getD ws (32 * t + 3) 0 + 2 ≤ 16) (ls′ : List ℕ) (c : Control) (h : Concluded w ws ls (32 * t) v ls′ c) where
+    both-locals : (length ls′ ≡ 16) × (take (getD ws (32 * t + 3) 0 + 2) ls′ ≡ take (getD ws (32 * t + 3) 0) (drop (32 * t + 8) ws) ++ (getD ws (32 * t + 4) 0 ∷ v ∷ []))
+    both-locals = body-locals w ws ls t (sitting w ws ls plan s v t kind q) few (getD ws (32 * t + 4) 0) v ls′ (h .locals)
+
     body-code : controlOf c ls′ ≡ evaluate (at (codeAt ws (32 * t)) (third w (codeAt ws (32 * t))) (codeAt ws (32 * t) .locals ++ (getD ws (32 * t + 4) 0 ∷ v ∷ [])))
     unfolding controlOf
-    body-code = rw (h .is, h .locals)
+    body-code = rw (h .is, both-locals .1)
 
     body-kept : tagOf kind ≡ 6 → Kept w ws ls′ (plan .birth) c t (s .oldest)
     unfolding Controlled
-    body-kept tag = closed-kept w ws ls plan s v t kind q ls′ c (h .sixteen)
+    body-kept tag = closed-kept w ws ls plan s v t kind q ls′ c (both-locals .0)
         (rw (h .is) (both-in w (q .ready .kept .table) (top w ws ls plan s v t kind q .stands) (tag-here w ws ls plan s v t kind q ∙ tag) .3)) (λ x. omega arith)
 
-  pub stepped-plain-right : (q : Returns w ws ls plan s v t 6) → Paid plan s → (ls′ : List ℕ) (c : Control) → Concluded w ws (32 * t) v ls′ c
+  pub stepped-plain-right : (q : Returns w ws ls plan s v t 6) → Paid plan s → (ls′ : List ℕ) (c : Control) → Concluded w ws ls (32 * t) v ls′ c
       → (n : Registers) → n ≡ ticked s c t (s .oldest) → Stepped w ws ls plan s ws ls′ (Go n)
   unfolding slotOf move with-fuel resultOf KeptBy
   stepped-plain-right q paid ls′ c h n e = rw e (record {
-    same = returned w ws ls plan s v t 6 q ∙ rw (lt-ltb _ _ paid, body-code 6 q (omega arith) ls′ c h);
-    kept = body-kept 6 q (omega arith) ls′ c h refl;
+    same = returned w ws ls plan s v t 6 q ∙ rw (lt-ltb _ _ paid, body-code 6 q (omega arith) (plain-few q) ls′ c h);
+    kept = body-kept 6 q (omega arith) (plain-few q) ls′ c h refl;
   })
 
   -- the kinds from 8 on
@@ -295,13 +313,13 @@ module _ (w ws ls : List ℕ) (plan : Plan) (s : Registers) (v t : ℕ) where
         let x = rw stack-late at (q .ready .bounded .costs) in
         omega (arith, x, q .ready .bounded .within-fuel, q .ready .bounded .forks, q .ready .limits .fuel, q .ready .limits .tau, q .ready .limits .frames)
 
-    pub stepped-join : (ls′ : List ℕ) (c : Control) → Concluded w ws (32 * t) v ls′ c → (m : ℕ) → m ≡ getD ws (32 * t + 5) 0 + (plan .tau + max (getD ws (32 * t + 6) 0) (s .span .0))
+    pub stepped-join : (ls′ : List ℕ) (c : Control) → Concluded w ws ls (32 * t) v ls′ c → (m : ℕ) → m ≡ getD ws (32 * t + 5) 0 + (plan .tau + max (getD ws (32 * t + 6) 0) (s .span .0))
         → (n : Registers) → n ≡ restarted s c t (s .oldest) m (s .forks) → Stepped w ws ls plan s ws ls′ (Go n)
     unfolding move resultOf KeptBy
     stepped-join ls′ c h m x n e = rw (e, x) (record {
       same = returned w ws ls plan s v t kind q
-          ∙ rw (late-slot kind late (codeAt ws (32 * t)) (getD ws (32 * t + 4) 0) (argumentsAt ws (32 * t)) (getD ws (32 * t + 5) 0) (getD ws (32 * t + 6) 0), body-code kind q (omega arith) ls′ c h);
-      kept = body-kept kind q (omega arith) ls′ c h (late-tag kind late);
+          ∙ rw (late-slot kind late (codeAt ws (32 * t)) (getD ws (32 * t + 4) 0) (argumentsAt ws (32 * t)) (getD ws (32 * t + 5) 0) (getD ws (32 * t + 6) 0), body-code kind q (omega arith) both-few ls′ c h);
+      kept = body-kept kind q (omega arith) both-few ls′ c h (late-tag kind late);
     })
 
   -- the function that a call's frame calls, read through the array of starts
@@ -328,10 +346,12 @@ module _ (w ws ls : List ℕ) (plan : Plan) (s : Registers) (v t : ℕ) where
         let x : getD ws (32 * t + 4) 0 ≤ length (drop (32 * t + 24) ws) = simp length-drop (omega (arith, room w ws ls plan s v t 4 q, few-here)) in
         length-append (argumentsAt ws (32 * t)) (v ∷ []) ∙ rw (length-take-le _ _ x, ← is-n)
 
-    pub stepped-next-argument : Paid plan s → n + 1 < arityAt w (calledAt w ws (32 * t)) → (ws′ ls′ : List ℕ) (seat : Seat) → length ws′ ≡ length ws → Collected ws ws′ t n v → Child w ws′ (32 * t) (ltb 1 (n + 1)) ls′ seat
+    pub stepped-next-argument : Paid plan s → n + 1 < arityAt w (calledAt w ws (32 * t)) → (ws′ ls′ : List ℕ) (seat : Seat) → length ws′ ≡ length ws → ws′ ≡ collected ws t n v → Child w ws′ ls (32 * t) (ltb 1 (n + 1)) ls′ seat
         → (m : Registers) → m ≡ ticked s (Eval (seat .function) (seat .node) (seat .count)) (t + 1) (s .oldest) → Stepped w ws ls plan s ws′ ls′ (Go m)
     unfolding slotOf arrive gathered resultOf KeptBy Controlled controlOf
-    stepped-next-argument paid less ws′ ls′ seat long u h m e =
+    stepped-next-argument paid less ws′ ls′ seat long c h m e =
+        let u = is-collected ws ws′ t (room w ws ls plan s v t 4 q) n v few-here c in
+        let l = frame-locals w ws′ ls t (sitting-collected w ws ls plan s v t 4 q n few-here ws′ long c) ls′ (h .locals) in
         let table = q .ready .kept .table in
         let fit = top w ws ls plan s v t 4 q in
         let tag = tag-here w ws ls plan s v t 4 q in
@@ -342,14 +362,14 @@ module _ (w ws ls : List ℕ) (plan : Plan) (s : Registers) (v t : ℕ) where
         let slot : slotAt ws′ (32 * t) ≡ ordinary (argument caller more) = rw (kind, u .is-function, u .is-node, u .is-count, locals, u .is-value, u .is-arguments, is-n) in
         let stack : stackOf ws′ (t + 1) ≡ ordinary (argument caller more) ∷ stackOf ws t = sym (stack-more ws′ t) ∙ rw (slot, below .0) in
         let control : controlOf (Eval (seat .function) (seat .node) (seat .count)) ls′ ≡ evaluate (at caller (cond (ltb 1 (n + 1)) (third w caller) (second w caller)) (caller .locals)) =
-        rw (h .seat, h .loaded .are, u .is-function, u .is-node, u .is-count, locals) in
+        rw (h .seat, l .are, u .is-function, u .is-node, u .is-count, locals) in
         rw e (record {
           same = returned w ws ls plan s v t 4 q
               ∙ keeps w ws ls plan s v t 4 q paid (argument caller (argumentsAt ws (32 * t))) (argument caller more) (at caller (cond (ltb 1 (n + 1)) (third w caller) (second w caller)) (caller .locals)) (rw (length-more, lt-ltb _ _ less))
               ∙ rw (control, stack);
           kept = record {
             table = table;
-            sixteen = h .loaded .sixteen;
+            sixteen = l .sixteen;
             room = omega (arith, room w ws ls plan s v t 4 q);
             held = held-more w ws′ t (rw (kind, u .is-function, u .is-node, u .is-count, u .is-value) (record { stands = fit .stands; tag = tag; awaits = λ y. less })) (below .1);
             control = rw (h .seat, u .is-function, u .is-node, u .is-count) (argument-later w table (fit .stands) tag (n + 1) (omega arith) less);
@@ -358,10 +378,12 @@ module _ (w ws ls : List ℕ) (plan : Plan) (s : Registers) (v t : ℕ) where
           };
         })
 
-    pub stepped-last-argument : Paid plan s → (g : ℕ) → g ≡ calledAt w ws (32 * t) → arityAt w g ≤ n + 1 → (ls₁ ls₂ : List ℕ) → Loaded ws (32 * t + 24) n ls₁ → Appended ls₁ n v ls₂
+    pub stepped-last-argument : Paid plan s → (g : ℕ) → g ≡ calledAt w ws (32 * t) → arityAt w g ≤ n + 1 → (ls₁ ls₂ : List ℕ) → ls₁ ≡ loaded ls ws (32 * t + 24) n → ls₂ ≡ appended ls₁ n v
         → (m : Registers) → m ≡ ticked s (Eval g 0 (n + 1)) t (s .oldest) → Stepped w ws ls plan s ws ls₂ (Go m)
     unfolding slotOf arrive gathered Controlled controlOf
-    stepped-last-argument paid g is-g most ls₁ ls₂ l a m e =
+    stepped-last-argument paid g is-g most ls₁ ls₂ x y m e =
+        let l = is-loaded ls ws ls₁ (32 * t + 24) n (omega (arith, few-here)) (omega (arith, few-here, room w ws ls plan s v t 4 q)) (q .ready .kept .sixteen) x in
+        let a = is-appended ls₁ ls₂ n v (omega (arith, few-here)) (l .sixteen) y in
         let table = q .ready .kept .table in
         let fit = top w ws ls plan s v t 4 q in
         let more = argumentsAt ws (32 * t) ++ (v ∷ []) in

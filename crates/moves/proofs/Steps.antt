@@ -20,7 +20,8 @@ use Rattle.table.specs.Words.{arityAt, startOf, tagAt, aAt}
 use Rattle.table.specs.Nodes.{nodeAt}
 use Rattle.table.specs.Read.{startsOf}
 use Rattle.table.proofs.Views.{tagFor}
-use Rattle.frames.specs.Frames.{Pushed}
+use Rattle.frames.specs.Frames.{pushed}
+use Rattle.frames.proofs.Writes.{Pushed, is-pushed}
 use Rattle.language.specs.Language.{Code, Frame, left-operand, condition, binding, argument, place, at, first, next, call, language}
 use Rattle.moves.specs.declared.Control.{Control}
 use Rattle.moves.specs.declared.Control.the-variants.{Eval, Ret}
@@ -142,6 +143,9 @@ module _ (w ws ls : List ℕ) (plan : Plan) (s : Registers) (r : Ready w ws ls p
     stepped-enter g b c o n a u = stepped-transit (Eval g 0 0) o (rw (n, a)) (rw a at (enter w (r .kept .table) here g (callee w (r .kept .table) here g b c n))) u
 
     -- a frame is opened
+    opened : (ws′ : List ℕ) (kind g : ℕ) → s .depth < cap → ws′ ≡ pushed ws (s .depth) kind f p k ls g → Pushed ws ws′ (s .depth) kind f p k ls g
+    opened ws′ kind g h e = is-pushed ws ws′ (s .depth) (below-cap (length ws) (s .depth) h (r .limits .frames) .0) kind f p k ls g (here .few) (r .kept .sixteen) e
+
     module _ (ws′ : List ℕ) (long : length ws′ ≡ length ws) (kind g o′ : ℕ) (h : s .depth < cap) (u : Pushed ws ws′ (s .depth) kind f p k ls g)
         (ok : Fitting w kind f p k 0) (child : Stands w f (p + 1) k) (old : Oldest ws′ (s .depth + 1) o′) (bo : plan .birth ≡ true → o′ ≡ 4096) where
       below : (stackOf ws (s .depth) ≡ stackOf ws′ (s .depth)) × Held w ws′ (s .depth)
@@ -169,7 +173,8 @@ module _ (w ws ls : List ℕ) (plan : Plan) (s : Registers) (r : Ready w ws ls p
     unfolding evaluated with-fuel with-frame resultOf KeptBy controlOf
     stepped-frame ws′ long kind small fr q n ok child o (dry h c d) = rw (c, d) (record { same = evaluates ∙ rw (n, le-ltb _ _ h); kept = tt })
     stepped-frame ws′ long kind small fr q n ok child o (Opened.full h i c d) = rw (c, d) (record { same = evaluates ∙ rw (n, lt-ltb _ _ h, length-stack ws (s .depth), le-ltb _ _ i); kept = tt })
-    stepped-frame ws′ long kind small fr q n ok child o (opens h i u d) =
+    stepped-frame ws′ long kind small fr q n ok child o (opens h i e d) =
+        let u = opened ws′ kind 0 i e in
         let low : s .depth < 4096 = below-cap (length ws) (s .depth) i (r .limits .frames) .1 in
         let old = oldest-other ws ws′ (s .depth) (sym (u .below)) (s .oldest) low (r .kept .oldest) (λ x. omega (arith, u .is-kind)) (λ x. absurd (omega (arith, u .is-kind))) in
         rw d (record {
@@ -210,7 +215,8 @@ module _ (w ws ls : List ℕ) (plan : Plan) (s : Registers) (r : Ready w ws ls p
       pub stepped-both : (b c : ℕ) → nodeAt w (startOf w f) p ≡ Both b c → OpenedBoth ws ws′ ls plan s (record { function = f; node = p; count = k }) o → Stepped w ws ls plan s ws′ ls o
       unfolding next slotOf tagFor evaluated with-fuel with-frame resultOf KeptBy controlOf
       stepped-both b c n (born x (Forked.full h q d)) = rw (q, d) (record { same = evaluates ∙ rw (n, x, length-stack ws (s .depth), le-ltb _ _ h); kept = tt })
-      stepped-both b c n (born x (forks h u d)) =
+      stepped-both b c n (born x (forks h e d)) =
+          let u = opened ws′ 7 (s .span .0) h e in
           let t : tagAt w (startOf w f) p ≡ 6 = tag-is w (r .kept .table) here ∙ ap tagFor n in
           let ok : Fitting w 7 f p k 0 = record { stands = here; tag = t; awaits = λ y. absurd (omega arith) } in
           let child = both-in w (r .kept .table) here t .1 in
@@ -222,7 +228,8 @@ module _ (w ws ls : List ℕ) (plan : Plan) (s : Registers) (r : Ready w ws ls p
           })
       stepped-both b c n (plain x (dry h q d)) = rw (q, d) (record { same = evaluates ∙ rw (n, x, le-ltb _ _ h); kept = tt })
       stepped-both b c n (plain x (Opened.full h i q d)) = rw (q, d) (record { same = evaluates ∙ rw (n, x, lt-ltb _ _ h, length-stack ws (s .depth), le-ltb _ _ i); kept = tt })
-      stepped-both b c n (plain x (opens h i u d)) =
+      stepped-both b c n (plain x (opens h i e d)) =
+          let u = opened ws′ 5 0 i e in
           let t : tagAt w (startOf w f) p ≡ 6 = tag-is w (r .kept .table) here ∙ ap tagFor n in
           let ok : Fitting w 5 f p k 0 = record { stands = here; tag = t; awaits = λ y. absurd (omega arith) } in
           let child = both-in w (r .kept .table) here t .1 in

@@ -1,6 +1,5 @@
--- How the words of the workspace and the registers hold a state of the flat machine. Frame d stands at word 32 * d: kind, function, node,
--- number of locals, value (a left one, or how many arguments are there), span before the fork, span of the left branch; the locals from
--- word 8 on and the arguments from word 24 on.
+-- How the words of the workspace and the registers hold a state of the flat machine. Frame d begins at word b = 32 * d and is laid out as
+-- specs/Frames of crate `frames` says; its value is a left one, or how many arguments are there.
 use Prim.Native.Nat.{ℕ, zero, suc, _+_, _*_, max}
 use mathlib.Core.Bool.{cond}
 use mathlib.Core.List.{List, [], _∷_}

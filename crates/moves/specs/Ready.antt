@@ -2,11 +2,11 @@
 use Prim.Native.Nat.{ℕ, zero, suc, _+_, _*_, _/_, _≤_, _<_, _^_}
 use mathlib.Core.Path.{_≡_}
 use mathlib.Core.Bool.{Bool, true, false, cond}
-use mathlib.Core.List.{List, [], _∷_, _++_}
-use lib.ListN.{length, getD, take, drop}
+use mathlib.Core.List.{List, [], _∷_}
+use lib.ListN.{length, getD}
 use lib.Dec.{ltb}
 use Rattle.schedule.specs.Algebra.{spans}
-use Rattle.schedule.specs.Machine.{promote, move}
+use Rattle.schedule.specs.Machine.{move}
 use Rattle.schedule.specs.Bounds.{Bounded, step-by}
 use Rattle.table.specs.Words.{functions, arityAt, startOf, bodyAt, tagAt, aAt, bAt, cAt}
 use Rattle.table.specs.WellFormed.{Subtree, WellFormed}
@@ -16,7 +16,7 @@ use Rattle.table.specs.declared.Node.the-variants.{Constant, Local, Arithmetic,
 use Rattle.arithmetic.specs.declared.Computed.{Computed}
 use Rattle.arithmetic.specs.declared.Computed.the-variants.{Is, Fails}
 use Rattle.arithmetic.specs.Operate.{computed}
-use Rattle.frames.specs.Frames.{Pushed, Loaded}
+use Rattle.frames.specs.Frames.{pushed, marked, loaded, appended}
 use Rattle.moves.specs.declared.Control.{Control}
 use Rattle.moves.specs.declared.Control.the-variants.{Eval, Ret}
 use Rattle.moves.specs.declared.Registers.{Registers}
@@ -136,13 +136,13 @@ transited plan s seat c = cond (ltb (s .transitions) (plan .fuel .0)) (Go (ticke
 pub data Opened (ws ws′ ls : List ℕ) (plan : Plan) (s : Registers) (seat : Seat) (kind oldest : ℕ) (r : Step) : Type 0 where
   dry : plan .fuel .0 ≤ s .transitions → ws′ ≡ ws → r ≡ halted 20 (seat .function) (seat .node) → Opened ws ws′ ls plan s seat kind oldest r
   full : s .transitions < plan .fuel .0 → length ws / 32 ≤ s .depth → ws′ ≡ ws → r ≡ halted 21 (seat .function) (seat .node) → Opened ws ws′ ls plan s seat kind oldest r
-  opens : s .transitions < plan .fuel .0 → s .depth < length ws / 32 → Pushed ws ws′ (s .depth) kind (seat .function) (seat .node) (seat .count) ls 0
+  opens : s .transitions < plan .fuel .0 → s .depth < length ws / 32 → ws′ ≡ pushed ws (s .depth) kind (seat .function) (seat .node) (seat .count) ls 0
       → r ≡ Go (ticked (risen s) (Eval (seat .function) (seat .node + 1) (seat .count)) (s .depth + 1) oldest) → Opened ws ws′ ls plan s seat kind oldest r
 
 -- a fork that is promoted at its birth: a free frame
 pub data Forked (ws ws′ ls : List ℕ) (s : Registers) (seat : Seat) (r : Step) : Type 0 where
   full : length ws / 32 ≤ s .depth → ws′ ≡ ws → r ≡ halted 21 (seat .function) (seat .node) → Forked ws ws′ ls s seat r
-  forks : s .depth < length ws / 32 → Pushed ws ws′ (s .depth) 7 (seat .function) (seat .node) (seat .count) ls (s .span .0)
+  forks : s .depth < length ws / 32 → ws′ ≡ pushed ws (s .depth) 7 (seat .function) (seat .node) (seat .count) ls (s .span .0)
       → r ≡ Go (restarted (risen s) (Eval (seat .function) (seat .node + 1) (seat .count)) (s .depth + 1) (s .oldest) 0 (s .forks + 1)) → Forked ws ws′ ls s seat r
 
 pub data OpenedBoth (ws ws′ ls : List ℕ) (plan : Plan) (s : Registers) (seat : Seat) (r : Step) : Type 0 where
@@ -156,20 +156,23 @@ pub record Sitting (w ws ls : List ℕ) (top : ℕ) : Type 0 where
   pub sixteen : length ls ≡ 16
   pub stands : Stands w (getD ws (32 * top + 1) 0) (getD ws (32 * top + 2) 0) (getD ws (32 * top + 3) 0)
 
+-- the locals that a frame saves, brought back
+abbrev pub localsAt : List ℕ → List ℕ → ℕ → List ℕ
+localsAt ls ws b = loaded ls ws (b + 8) (getD ws (b + 3) 0)
+
 -- the second or the third child of a frame's node, with the frame's locals
-pub record Child (w ws : List ℕ) (b : ℕ) (last : Bool) (ls′ : List ℕ) (r : Seat) : Type 0 where
+pub record Child (w ws ls : List ℕ) (b : ℕ) (last : Bool) (ls′ : List ℕ) (r : Seat) : Type 0 where
   pub seat : r ≡ record {
     function = getD ws (b + 1) 0;
     node = cond last (cAt w (startOf w (getD ws (b + 1) 0)) (getD ws (b + 2) 0)) (bAt w (startOf w (getD ws (b + 1) 0)) (getD ws (b + 2) 0));
     count = getD ws (b + 3) 0;
   }
-  pub loaded : Loaded ws (b + 8) (getD ws (b + 3) 0) ls′
+  pub locals : ls′ ≡ localsAt ls ws b
 
 -- the body of a fork's node: its third child, with the left's value and the right's added
-pub record Concluded (w ws : List ℕ) (b v : ℕ) (ls′ : List ℕ) (r : Control) : Type 0 where
+pub record Concluded (w ws ls : List ℕ) (b v : ℕ) (ls′ : List ℕ) (r : Control) : Type 0 where
   pub is : r ≡ Eval (getD ws (b + 1) 0) (cAt w (startOf w (getD ws (b + 1) 0)) (getD ws (b + 2) 0)) (getD ws (b + 3) 0 + 2)
-  pub sixteen : length ls′ ≡ 16
-  pub locals : take (getD ws (b + 3) 0 + 2) ls′ ≡ take (getD ws (b + 3) 0) (drop (b + 8) ws) ++ (getD ws (b + 4) 0 ∷ v ∷ [])
+  pub locals : ls′ ≡ appended (appended (localsAt ls ws b) (getD ws (b + 3) 0) (getD ws (b + 4) 0)) (getD ws (b + 3) 0 + 1) v
 
 -- the next plain fork from a place on, upward
 pub record Found (ws : List ℕ) (from d r : ℕ) : Type 0 where
@@ -178,11 +181,11 @@ pub record Found (ws : List ℕ) (from d r : ℕ) : Type 0 where
   pub is : r < d → getD ws (32 * r) 0 ≡ 5
   pub none : d ≤ r → r ≡ 4096
 
--- what a promotion tells of words whose oldest plain fork is known
+-- what a promotion of the fork at `oldest` leaves
 pub record Promoted (ws : List ℕ) (s : Registers) (ws′ : List ℕ) (r : Registers) : Type 0 where
+  pub words : ws′ ≡ marked ws (s .oldest) 7 (s .span .0)
   pub registers : r ≡ restarted s (s .control) (s .depth) (r .oldest) 0 (s .forks + 1)
-  pub told : (w : List ℕ) → WellFormed w → Held w ws (s .depth) → Oldest ws (s .depth) (s .oldest)
-      → (stackOf ws′ (s .depth) ≡ promote (s .span .0) (stackOf ws (s .depth))) × (Held w ws′ (s .depth) × Oldest ws′ (s .depth) (r .oldest))
+  pub next : Found ws′ (s .oldest + 1) (s .depth) (r .oldest)
 
 -- the function that a call's frame calls
 abbrev pub calledAt : List ℕ → List ℕ → ℕ → ℕ

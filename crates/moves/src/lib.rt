@@ -186,7 +186,7 @@ fn open(
     let fuel = plan.fuel;
     if fuel.allows(s.transitions) {
         if depth < ws.len() / 32 {
-            frames::push(ws, depth, kind, f, p, k, locals, 0);
+            frames::push(ws, depth, kind, f, p, k, locals, Span::none());
             let up = rise(s);
             Step::Go(tick(up, Control::Eval(f, p + 1, k), depth + 1, oldest))
         } else {
@@ -208,7 +208,7 @@ fn fork(ws: &mut [u64], locals: &[u64], s: Registers, seat: Seat) -> Step
     let k = seat.count;
     let span = s.span;
     if depth < ws.len() / 32 {
-        frames::push(ws, depth, 7, f, p, k, locals, span.0);
+        frames::push(ws, depth, 7, f, p, k, locals, span);
         let up = rise(s);
         Step::Go(restart(
             up,
@@ -293,7 +293,7 @@ fn child(
     last: bool,
 ) -> Seat
     requires { ⌜ (Sitting (now words) (now ws) (now locals) top) × (now starts ≡ startsOf (now words)) ⌝ }
-    ensures { λ r. ⌜ Child (now (words .entry)) (now (ws .entry)) (32 * top) last (now (locals .exit)) r ⌝ }
+    ensures { λ r. ⌜ Child (now (words .entry)) (now (ws .entry)) (now (locals .entry)) (32 * top) last (now (locals .exit)) r ⌝ }
 {
     let b = 32 * top;
     let function = index(ws[b + 1]);
@@ -327,7 +327,7 @@ fn ret_left_operand(
     requires { ⌜ (Returns (now words) (now ws) (now locals) plan s v top 0) × (Paid plan s) × (now starts ≡ startsOf (now words)) ⌝ }
     ensures { λ r. ⌜ Stepped (now (words .entry)) (now (ws .entry)) (now (locals .entry)) plan s (now (ws .exit)) (now (locals .exit)) r ⌝ }
 {
-    frames::turn(ws, top, 1, v, 0);
+    frames::turn(ws, top, 1, v, Span::none());
     let seat = child(words, starts, ws, locals, top, false);
     Step::Go(tick(
         s,
@@ -474,7 +474,8 @@ fn last_argument(
 {
     frames::load_arguments(locals, ws, top, n);
     frames::append(locals, n, v);
-    Step::Go(tick(s, Control::Eval(g, 0, n + 1), top, s.oldest))
+    let count = n + 1;
+    Step::Go(tick(s, Control::Eval(g, 0, count), top, s.oldest))
 }
 
 // An argument of a call.
@@ -517,7 +518,7 @@ fn ret_plain_left(
     requires { ⌜ (Returns (now words) (now ws) (now locals) plan s v top 5) × (Paid plan s) × (now starts ≡ startsOf (now words)) ⌝ }
     ensures { λ r. ⌜ Stepped (now (words .entry)) (now (ws .entry)) (now (locals .entry)) plan s (now (ws .exit)) (now (locals .exit)) r ⌝ }
 {
-    frames::turn(ws, top, 6, v, 0);
+    frames::turn(ws, top, 6, v, Span::none());
     let seat = child(words, starts, ws, locals, top, false);
     let oldest = oldest_without(s.oldest, top);
     Step::Go(tick(
@@ -538,7 +539,7 @@ fn body(
     v: u64,
 ) -> Control
     requires { ⌜ (Sitting (now words) (now ws) (now locals) top) × (now starts ≡ startsOf (now words)) × (getD (now ws) (32 * top + 3) 0 + 2 ≤ 16) ⌝ }
-    ensures { λ r. ⌜ Concluded (now (words .entry)) (now (ws .entry)) (32 * top) v (now (locals .exit)) r ⌝ }
+    ensures { λ r. ⌜ Concluded (now (words .entry)) (now (ws .entry)) (now (locals .entry)) (32 * top) v (now (locals .exit)) r ⌝ }
 {
     let left = ws[32 * top + 4];
     let seat = child(words, starts, ws, locals, top, true);
@@ -581,7 +582,7 @@ fn turned(
     ensures { λ r. ⌜ Stepped (now (words .entry)) (now (ws .entry)) (now (locals .entry)) plan s (now (ws .exit)) (now (locals .exit)) r ⌝ }
 {
     let span = s.span;
-    frames::turn(ws, top, 8, v, span.0);
+    frames::turn(ws, top, 8, v, span);
     let seat = child(words, starts, ws, locals, top, false);
     Step::Go(restart(
         s,
@@ -717,7 +718,7 @@ fn promote(ws: &mut [u64], s: Registers) -> Registers
     let at = s.oldest;
     let span = s.span;
     let control = s.control;
-    frames::mark(ws, at, 7, span.0);
+    frames::mark(ws, at, 7, span);
     let next = search(ws, at + 1, s.depth);
     restart(s, control, s.depth, next, Span::none(), s.forks + 1)
 }

@@ -1,7 +1,8 @@
--- `frames::collect` meets its contract: its two stores collect the argument, by `collected`. Assumes nothing.
+-- `frames::collect` meets its contract, which is its two stores. Assumes nothing.
 use native.Mathlib.Omega.{arith}
+use native.Mathlib.Nat.{add-comm}
 use lib.ListN.{length-set}
-use Rattle.frames.proofs.Writes.{collected}
+use Rattle.frames.specs.Frames.{collected}
 use borrow.Author.Needs.{needs}
 use Rattle.frames.proofs.collect.Statement.{statement}
 use Rattle.frames.proofs.collect.Tie as tie
@@ -37,7 +38,8 @@ same-length : tie.Need-same-length
 same-length c = search needs
 
 returns : tie.Need-returns
-returns c = collected (c .args .ws .now) (c .args .top) (c .pre .0) (c .args .n) (c .args .v) (c .pre .1)
+unfolding collected
+returns c = simp add-comm
 
 pub collect-spec : {M : Type 1} → statement M
 collect-spec =

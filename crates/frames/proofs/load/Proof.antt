@@ -1,7 +1,6 @@
--- `frames::load` meets its contract: the copy loads the saved locals, by `loaded`. Assumes nothing.
-use native.Mathlib.Omega.{arith}
-use Prim.Native.Nat.{_+_, _*_}
-use Rattle.frames.proofs.Writes.{loaded}
+-- `frames::load` meets its contract, which is its copy. Assumes nothing.
+use mathlib.Core.Path.{_∙_}
+use native.Mathlib.Nat.{add-comm}
 use borrow.Author.Needs.{needs}
 use Rattle.frames.proofs.load.Statement.{statement}
 use Rattle.frames.proofs.load.Tie as tie
@@ -19,9 +18,7 @@ same-length : tie.Need-same-length
 same-length c = search needs
 
 returns : tie.Need-returns
-returns c = let s = c .before .before .before .before .before .before in
-    let a = s .args in
-    rw (c .before .before .copy .ensures) (loaded (a .locals .now) (a .ws .now) (32 * a .top + 8) (a .k) (s .pre .1) (omega arith) (s .pre .2))
+returns c = c .before .before .copy .ensures ∙ simp add-comm
 
 pub load-spec : {M : Type 1} → statement M
 load-spec = tie.close (tie.spec mul-b add-copy copy-requires same-length returns)

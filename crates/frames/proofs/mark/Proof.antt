@@ -1,4 +1,4 @@
--- `frames::mark` meets its contract, which gives its two stores as they are. Assumes nothing.
+-- `frames::mark` meets its contract, which is its two stores. Assumes nothing.
 use native.Mathlib.Omega.{arith}
 use lib.ListN.{length-set}
 use borrow.Author.Needs.{needs}

@@ -1,8 +1,8 @@
--- `frames::push` meets its contract: its six stores and the copy make the frame, by `pushed`. Assumes nothing.
+-- `frames::push` meets its contract, which is its six stores and the copy. Assumes nothing.
 use mathlib.Core.Path.{_∙_}
 use native.Mathlib.Omega.{arith}
 use lib.ListN.{length-set}
-use Rattle.frames.proofs.Writes.{pushed}
+use Rattle.frames.specs.Frames.{pushed}
 use borrow.Author.Needs.{needs}
 use Rattle.frames.proofs.push.Statement.{statement}
 use Rattle.frames.proofs.push.Tie as tie
@@ -71,9 +71,8 @@ same-length : tie.Need-same-length
 same-length c = c .before .before .copy .kept .0 ∙ simp length-set
 
 returns : tie.Need-returns
-returns c = let s = c .before .before .before .before .before .before in
-    let a = s .args in
-    rw (c .before .before .copy .ensures) (pushed (a .ws .now) (a .depth) (s .pre .0) (a .kind) (a .function) (a .node) (a .k) (a .locals .now) (a .before) (s .pre .1) (s .pre .2))
+unfolding pushed
+returns c = c .before .before .copy .ensures
 
 pub push-spec : {M : Type 1} → statement M
 push-spec =

@@ -1,7 +1,8 @@
--- `frames::turn` meets its contract: its three stores turn the frame, by `turned`. Assumes nothing.
+-- `frames::turn` meets its contract, which is its three stores. Assumes nothing.
 use native.Mathlib.Omega.{arith}
+use native.Mathlib.Nat.{add-comm}
 use lib.ListN.{length-set}
-use Rattle.frames.proofs.Writes.{turned}
+use Rattle.frames.specs.Frames.{turned}
 use borrow.Author.Needs.{needs}
 use Rattle.frames.proofs.turn.Statement.{statement}
 use Rattle.frames.proofs.turn.Tie as tie
@@ -37,7 +38,8 @@ same-length : tie.Need-same-length
 same-length c = search needs
 
 returns : tie.Need-returns
-returns c = turned (c .args .ws .now) (c .args .top) (c .pre) (c .args .kind) (c .args .v) (c .args .span)
+unfolding turned
+returns c = simp add-comm
 
 pub turn-spec : {M : Type 1} → statement M
 turn-spec =

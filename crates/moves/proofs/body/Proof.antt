@@ -25,13 +25,13 @@ child-requires : tie.Need-child-requires
 child-requires c κs = search needs
 
 append-requires : tie.Need-append-requires
-append-requires c κs = let k : c .before .before .before .child .result .count ≡ getD (c .before .before .before .before .before .before .before .before .before .before .args .ws .now) (32 * c .before .before .before .before .before .before .before .before .before .before .args .top + 3) 0 = ap (λ (z : Seat). z .count) (c .before .before .before .child .ensures .seat) in omega (arith, c .before .before .before .child .ensures .loaded .sixteen, c .before .before .before .before .before .before .before .before .before .before .pre .2)
+append-requires c κs = let k : c .before .before .before .child .result .count ≡ getD (c .before .before .before .before .before .before .before .before .before .before .args .ws .now) (32 * c .before .before .before .before .before .before .before .before .before .before .args .top + 3) 0 = ap (λ (z : Seat). z .count) (c .before .before .before .child .ensures .seat) in omega (arith, c .before .before .before .child .kept .1 .1 .1 .0, c .before .before .before .before .before .before .before .before .before .before .pre .0 .sixteen, c .before .before .before .before .before .before .before .before .before .before .pre .2)
 
 add-append : tie.Need-add-append
 add-append c = let k : c .before .before .before .before .before .before .before .child .result .count ≡ getD (c .before .before .before .before .before .before .before .before .before .before .before .before .before .before .args .ws .now) (32 * c .before .before .before .before .before .before .before .before .before .before .before .before .before .before .args .top + 3) 0 = ap (λ (z : Seat). z .count) (c .before .before .before .before .before .before .before .child .ensures .seat) in omega (arith, c .before .before .before .before .before .before .before .before .before .before .before .before .before .before .pre .2)
 
 append-requires-2 : tie.Need-append-requires-2
-append-requires-2 c κs = let k : c .before .before .before .before .before .before .before .child .result .count ≡ getD (c .before .before .before .before .before .before .before .before .before .before .before .before .before .before .args .ws .now) (32 * c .before .before .before .before .before .before .before .before .before .before .before .before .before .before .args .top + 3) 0 = ap (λ (z : Seat). z .count) (c .before .before .before .before .before .before .before .child .ensures .seat) in omega (arith, c .before .before .before .append .ensures .sixteen, c .before .before .before .before .before .before .before .before .before .before .before .before .before .before .pre .2)
+append-requires-2 c κs = let k : c .before .before .before .before .before .before .before .child .result .count ≡ getD (c .before .before .before .before .before .before .before .before .before .before .before .before .before .before .args .ws .now) (32 * c .before .before .before .before .before .before .before .before .before .before .before .before .before .before .args .top + 3) 0 = ap (λ (z : Seat). z .count) (c .before .before .before .before .before .before .before .child .ensures .seat) in omega (arith, c .before .before .before .append .kept .0, c .before .before .before .before .before .before .before .child .kept .1 .1 .1 .0, c .before .before .before .before .before .before .before .before .before .before .before .before .before .before .pre .0 .sixteen, c .before .before .before .before .before .before .before .before .before .before .before .before .before .before .pre .2)
 
 add-t11 : tie.Need-add-t11
 add-t11 c = let k : c .before .before .before .before .before .before .before .before .before .before .child .result .count ≡ getD (c .before .before .before .before .before .before .before .before .before .before .before .before .before .before .before .before .before .args .ws .now) (32 * c .before .before .before .before .before .before .before .before .before .before .before .before .before .before .before .before .before .args .top + 3) 0 = ap (λ (z : Seat). z .count) (c .before .before .before .before .before .before .before .before .before .before .child .ensures .seat) in omega (arith, c .before .before .before .before .before .before .before .before .before .before .before .before .before .before .before .before .before .pre .2)
@@ -40,7 +40,7 @@ same-length : tie.Need-same-length
 same-length c = search needs
 
 returns : tie.Need-returns
-returns c = concluded _ _ _ _ _ _ _ _ (c .before .before .before .before .before .before .before .before .before .before .child .ensures) (c .before .before .before .before .before .before .append .ensures) (c .before .before .append2 .ensures)
+returns c = concluded _ _ _ _ _ _ _ _ _ (c .before .before .before .before .before .before .before .before .before .before .child .ensures) (c .before .before .before .before .before .before .append .ensures) (c .before .before .append2 .ensures)
 
 pub body-spec : {M : Type 1} → statement M
 body-spec =

@@ -10,10 +10,10 @@ load-arguments-requires : tie.Need-load-arguments-requires
 load-arguments-requires c κs = omega (arith, room (c .before .before .before .before .args .words .now) (c .before .before .before .before .args .ws .now) (c .before .before .before .before .args .locals .now) (c .before .before .before .before .args .plan) (c .before .before .before .before .args .s) (c .before .before .before .before .args .v) (c .before .before .before .before .args .top) 4 (c .before .before .before .before .pre .0), few-here (c .before .before .before .before .args .words .now) (c .before .before .before .before .args .ws .now) (c .before .before .before .before .args .locals .now) (c .before .before .before .before .args .plan) (c .before .before .before .before .args .s) (c .before .before .before .before .args .v) (c .before .before .before .before .args .top) (c .before .before .before .before .pre .0) (c .before .before .before .before .args .n) (c .before .before .before .before .pre .2), c .before .before .before .before .pre .0 .ready .kept .sixteen)
 
 append-requires : tie.Need-append-requires
-append-requires c κs = omega (arith, few-here (c .before .before .before .before .before .before .before .before .args .words .now) (c .before .before .before .before .before .before .before .before .args .ws .now) (c .before .before .before .before .before .before .before .before .args .locals .now) (c .before .before .before .before .before .before .before .before .args .plan) (c .before .before .before .before .before .before .before .before .args .s) (c .before .before .before .before .before .before .before .before .args .v) (c .before .before .before .before .before .before .before .before .args .top) (c .before .before .before .before .before .before .before .before .pre .0) (c .before .before .before .before .before .before .before .before .args .n) (c .before .before .before .before .before .before .before .before .pre .2), c .before .before .before .load-arguments .ensures .sixteen)
+append-requires c κs = omega (arith, few-here (c .before .before .before .before .before .before .before .before .args .words .now) (c .before .before .before .before .before .before .before .before .args .ws .now) (c .before .before .before .before .before .before .before .before .args .locals .now) (c .before .before .before .before .before .before .before .before .args .plan) (c .before .before .before .before .before .before .before .before .args .s) (c .before .before .before .before .before .before .before .before .args .v) (c .before .before .before .before .before .before .before .before .args .top) (c .before .before .before .before .before .before .before .before .pre .0) (c .before .before .before .before .before .before .before .before .args .n) (c .before .before .before .before .before .before .before .before .pre .2), c .before .before .before .load-arguments .kept .0, c .before .before .before .before .before .before .before .before .pre .0 .ready .kept .sixteen)
 
-add-t16 : tie.Need-add-t16
-add-t16 c = omega (arith, few-here (c .before .before .before .before .before .before .before .before .before .before .before .args .words .now) (c .before .before .before .before .before .before .before .before .before .before .before .args .ws .now) (c .before .before .before .before .before .before .before .before .before .before .before .args .locals .now) (c .before .before .before .before .before .before .before .before .before .before .before .args .plan) (c .before .before .before .before .before .before .before .before .before .before .before .args .s) (c .before .before .before .before .before .before .before .before .before .before .before .args .v) (c .before .before .before .before .before .before .before .before .before .before .before .args .top) (c .before .before .before .before .before .before .before .before .before .before .before .pre .0) (c .before .before .before .before .before .before .before .before .before .before .before .args .n) (c .before .before .before .before .before .before .before .before .before .before .before .pre .2))
+add-count : tie.Need-add-count
+add-count c = omega (arith, few-here (c .before .before .before .before .before .before .before .before .before .before .before .args .words .now) (c .before .before .before .before .before .before .before .before .before .before .before .args .ws .now) (c .before .before .before .before .before .before .before .before .before .before .before .args .locals .now) (c .before .before .before .before .before .before .before .before .before .before .before .args .plan) (c .before .before .before .before .before .before .before .before .before .before .before .args .s) (c .before .before .before .before .before .before .before .before .before .before .before .args .v) (c .before .before .before .before .before .before .before .before .before .before .before .args .top) (c .before .before .before .before .before .before .before .before .before .before .before .pre .0) (c .before .before .before .before .before .before .before .before .before .before .before .args .n) (c .before .before .before .before .before .before .before .before .before .before .before .pre .2))
 
 tick-requires : tie.Need-tick-requires
 tick-requires c κs = let b = bounds (c .before .before .before .before .before .before .before .before .before .before .before .args .words .now) (c .before .before .before .before .before .before .before .before .before .before .before .args .ws .now) (c .before .before .before .before .before .before .before .before .before .before .before .args .locals .now) (c .before .before .before .before .before .before .before .before .before .before .before .args .plan) (c .before .before .before .before .before .before .before .before .before .before .before .args .s) (c .before .before .before .before .before .before .before .before .before .before .before .pre .0 .ready) in (b .0, b .1, b .2)
@@ -27,4 +27,4 @@ returns c = stepped-last-argument (c .before .before .before .before .before .be
 pub last-argument-spec : {M : Type 1} → statement M
 last-argument-spec =
     tie.close
-    (tie.spec load-arguments-requires append-requires add-t16 tick-requires same-length returns)
+    (tie.spec load-arguments-requires append-requires add-count tick-requires same-length returns)

@@ -1,5 +1,5 @@
 -- `moves::promote` meets its contract, by the laws of Promotion.
-use Rattle.moves.proofs.Promotion.{promote-told}
+use Rattle.moves.proofs.Promotion.{promotes}
 use borrow.Author.Needs.{needs}
 use Rattle.moves.proofs.promote.Statement.{statement}
 use Rattle.moves.proofs.promote.Tie as tie
@@ -26,7 +26,7 @@ same-length : tie.Need-same-length
 same-length c = search needs
 
 returns : tie.Need-returns
-returns c = promote-told (c .before .before .before .before .before .before .before .before .before .before .before .args .ws .now) (c .before .before .before .before .before .before .before .mark .last .0) (c .before .before .before .before .before .before .before .before .before .before .before .args .s) (c .restart .result) (c .before .before .before .search .result) (c .before .before .before .before .before .before .before .before .before .before .before .pre .0) (c .before .before .before .before .before .before .before .before .before .before .before .pre .1) (c .before .before .before .before .before .before .before .mark .ensures) (c .before .before .before .search .ensures) (rw (c .before .before .none .ensures) at (c .restart .ensures))
+returns c = promotes (c .before .before .before .before .before .before .before .before .before .before .before .args .ws .now) (c .before .before .before .before .before .before .before .mark .last .0) (c .before .before .before .before .before .before .before .before .before .before .before .args .s) (c .restart .result) (c .before .before .before .search .result) (c .before .before .before .before .before .before .before .mark .ensures) (c .before .before .before .search .ensures) (rw (c .before .before .none .ensures) at (c .restart .ensures))
 
 pub promote-spec : {M : Type 1} → statement M
 promote-spec =

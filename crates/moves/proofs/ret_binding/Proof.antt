@@ -14,7 +14,7 @@ child-requires : tie.Need-child-requires
 child-requires c κs = (sitting (c .before .before .before .before .before .args .words .now) (c .before .before .before .before .before .args .ws .now) (c .before .before .before .before .before .args .locals .now) (c .before .before .before .before .before .args .plan) (c .before .before .before .before .before .args .s) (c .before .before .before .before .before .args .v) (c .before .before .before .before .before .args .top) 3 (c .before .before .before .before .before .pre .0), c .before .before .before .before .before .pre .2)
 
 append-requires : tie.Need-append-requires
-append-requires c κs = let k : c .before .before .before .child .result .count ≡ getD (c .before .before .before .before .before .before .before .before .before .args .ws .now) (32 * c .before .before .before .before .before .before .before .before .before .args .top + 3) 0 = ap (λ (z : Seat). z .count) (c .before .before .before .child .ensures .seat) in omega (arith, c .before .before .before .child .ensures .loaded .sixteen, binding-few (c .before .before .before .before .before .before .before .before .before .args .words .now) (c .before .before .before .before .before .before .before .before .before .args .ws .now) (c .before .before .before .before .before .before .before .before .before .args .locals .now) (c .before .before .before .before .before .before .before .before .before .args .plan) (c .before .before .before .before .before .before .before .before .before .args .s) (c .before .before .before .before .before .before .before .before .before .args .v) (c .before .before .before .before .before .before .before .before .before .args .top) (c .before .before .before .before .before .before .before .before .before .pre .0))
+append-requires c κs = let k : c .before .before .before .child .result .count ≡ getD (c .before .before .before .before .before .before .before .before .before .args .ws .now) (32 * c .before .before .before .before .before .before .before .before .before .args .top + 3) 0 = ap (λ (z : Seat). z .count) (c .before .before .before .child .ensures .seat) in omega (arith, c .before .before .before .child .kept .1 .1 .1 .0, c .before .before .before .before .before .before .before .before .before .pre .0 .ready .kept .sixteen, binding-few (c .before .before .before .before .before .before .before .before .before .args .words .now) (c .before .before .before .before .before .before .before .before .before .args .ws .now) (c .before .before .before .before .before .before .before .before .before .args .locals .now) (c .before .before .before .before .before .before .before .before .before .args .plan) (c .before .before .before .before .before .before .before .before .before .args .s) (c .before .before .before .before .before .before .before .before .before .args .v) (c .before .before .before .before .before .before .before .before .before .args .top) (c .before .before .before .before .before .before .before .before .before .pre .0))
 
 add-t17 : tie.Need-add-t17
 add-t17 c = let k : c .before .before .before .before .before .before .child .result .count ≡ getD (c .before .before .before .before .before .before .before .before .before .before .before .before .args .ws .now) (32 * c .before .before .before .before .before .before .before .before .before .before .before .before .args .top + 3) 0 = ap (λ (z : Seat). z .count) (c .before .before .before .before .before .before .child .ensures .seat) in omega (arith, binding-few (c .before .before .before .before .before .before .before .before .before .before .before .before .args .words .now) (c .before .before .before .before .before .before .before .before .before .before .before .before .args .ws .now) (c .before .before .before .before .before .before .before .before .before .before .before .before .args .locals .now) (c .before .before .before .before .before .before .before .before .before .before .before .before .args .plan) (c .before .before .before .before .before .before .before .before .before .before .before .before .args .s) (c .before .before .before .before .before .before .before .before .before .before .before .before .args .v) (c .before .before .before .before .before .before .before .before .before .before .before .before .args .top) (c .before .before .before .before .before .before .before .before .before .before .before .before .pre .0))
