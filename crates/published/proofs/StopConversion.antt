@@ -8,7 +8,7 @@ use lib.Dec.{leb}
 use lib.ListN.{length}
 use borrow.Author.Tests.{leb-true, le-leb}
 use Rattle.schedule.specs.FrameMachine.{Place, Control, evaluate, FrameMachine}
-use Rattle.schedule.specs.Machine.{sequential, parallel, heartbeat, promoted-at-birth, promotion-due}
+use Rattle.schedule.specs.Machine.{Schedule, sequential, parallel, heartbeat, promoted-at-birth, promotion-due}
 use Rattle.schedule.proofs.Moves.{and-true}
 use Rattle.published.specs.CostGraph.{CostGraph}
 use Rattle.published.specs.Judgments.{awaiting-left, PlainStack, can-promote, Parallel, Heartbeat}
@@ -37,6 +37,15 @@ module _ {M : FrameMachine} where
   hb-limits : {N fuel fuel' frames frames' : ℕ} {c : Control (M .Code)} {S : PlainStack M} {n i : ℕ} {p : Place} {k k' : ℕ}
       → HeartbeatStops M N fuel frames c S n i p k → fuel ≡ fuel' → frames ≡ frames' → k ≡ k' → HeartbeatStops M N fuel' frames' c S n i p k'
   hb-limits a f r e = rw (f, r, e) at a
+
+  -- And the credits.
+  at-credits : {m : Schedule} {fuel frames : ℕ} {c : Control (M .Code)} {S : PlainStack M} {n n' i : ℕ} {p : Place} {k : ℕ}
+      → Stops M m fuel frames c S n i p k → n ≡ n' → Stops M m fuel frames c S n' i p k
+  at-credits a e = rw e at a
+
+  hb-credits : {N fuel frames : ℕ} {c : Control (M .Code)} {S : PlainStack M} {n n' i : ℕ} {p : Place} {k : ℕ}
+      → HeartbeatStops M N fuel frames c S n i p k → n ≡ n' → HeartbeatStops M N fuel frames c S n' i p k
+  hb-credits a e = rw e at a
 
   pub of-seq-stop : {fuel frames : ℕ} {c : Control (M .Code)} {S : PlainStack M} {i : ℕ} {p : Place} {k : ℕ} (n : ℕ)
       → SequentialStops M fuel frames c S i p k → Stops M sequential fuel frames c S n i p k
@@ -128,7 +137,7 @@ module _ {M : FrameMachine} where
   pub of-hb-stop : {N fuel frames : ℕ} {c : Control (M .Code)} {S : PlainStack M} {n i : ℕ} {p : Place} {k : ℕ}
       → HeartbeatStops M N fuel frames c S n i p k → Stops M (heartbeat N) fuel frames c S n i p k
   unfolding promotion-due promoted-at-birth
-  of-hb-stop {N} (hb-halts {S = S} {n = n} q x) = by-halt (not-due N n (can-promote S) (λ e. cc) q) refl x
+  of-hb-stop {N} (hb-halts {S = S} {n = n} q x) = at-credits (by-halt (not-due N n (can-promote S) (λ e. cc) q) refl x) (omega arith)
   of-hb-stop {N} (hb-stops-later {S = S} {n = n} q x l d) =
       at-limits (after-step (not-due N n (can-promote S) (λ e. cc) q) refl x (of-hb-stop d) (omega arith)) (omega arith) (omega arith)
       (omega arith)
@@ -182,7 +191,7 @@ module _ {M : FrameMachine} where
   pub to-hb-stop : {N fuel frames : ℕ} {c : Control (M .Code)} {S : PlainStack M} {n i : ℕ} {p : Place} {k : ℕ}
       → Stops M (heartbeat N) fuel frames c S n i p k → HeartbeatStops M N fuel frames c S n i p k
   unfolding promotion-due promoted-at-birth
-  to-hb-stop {N} (by-halt {S = S} {n = n} q f x) = hb-halts {S = S} (due-not N n (can-promote S) (λ e. cc) q) x
+  to-hb-stop {N} (by-halt {S = S} {n = n} q f x) = hb-credits (hb-halts {S = S} {n = n} (due-not N n (can-promote S) (λ e. cc) q) x) (omega arith)
   to-hb-stop (by-no-frame q e l) = absurd (true≢false (sym q))
   to-hb-stop {N} (after-step {fuel = fuel} {frames = frames} {S = S} {n = n} q f x a l) =
       hb-limits
