@@ -97,7 +97,8 @@ module _ {M : FrameMachine} where
   of-hb {N} (hb-step {S = S} {n = n} q x d) = by-step (not-due N n (can-promote S) (λ e. cc) q) refl x (of-hb d)
   of-hb {N} (hb-promote {older = Y} {n = n} q o d1 d2 d3) =
       recounted
-      (by-promotion {older = Y} {n = n} refl (rw (le-leb N n (omega arith))) (cc) (of-hb d1) (of-hb d2) (recounted (of-hb d3) (omega arith) refl refl refl))
+      (by-promotion {older = Y} {n = n} refl (rw (le-leb N n (omega arith))) (cc) (of-hb d1) (of-hb d2)
+      (recounted (of-hb d3) (omega arith) refl refl refl))
       refl (cc) (omega arith) (omega arith)
 
   -- As `recounted`, of the credits.

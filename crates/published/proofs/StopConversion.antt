@@ -8,7 +8,7 @@ use lib.Dec.{leb}
 use lib.ListN.{length}
 use borrow.Author.Tests.{leb-true, le-leb}
 use Rattle.schedule.specs.FrameMachine.{Place, Control, evaluate, FrameMachine}
-use Rattle.schedule.specs.Machine.{sequential, parallel, heartbeat, promoted-at-birth, promotion-due}
+use Rattle.schedule.specs.Machine.{Schedule, sequential, parallel, heartbeat, promoted-at-birth, promotion-due}
 use Rattle.schedule.proofs.Moves.{and-true}
 use Rattle.published.specs.CostGraph.{CostGraph}
 use Rattle.published.specs.Judgments.{awaiting-left, PlainStack, can-promote, Parallel, Heartbeat}
@@ -25,7 +25,7 @@ abbrev Hb : (M : FrameMachine) → ℕ → Control (M .Code) → PlainStack M �
 Hb M N c S v g k p = Converted (Heartbeat M N c S 0 v g) (λ d. hb-transitions d) (λ d. hb-frames d) k p
 
 module _ {M : FrameMachine} where
-  -- As `at-limits`.
+  -- As `at-limits` (Stopping.antt), of each family.
   seq-limits : {fuel fuel' frames frames' : ℕ} {c : Control (M .Code)} {S : PlainStack M} {i : ℕ} {p : Place} {k k' : ℕ}
       → SequentialStops M fuel frames c S i p k → fuel ≡ fuel' → frames ≡ frames' → k ≡ k' → SequentialStops M fuel' frames' c S i p k'
   seq-limits a f r e = rw (f, r, e) at a
@@ -37,6 +37,15 @@ module _ {M : FrameMachine} where
   hb-limits : {N fuel fuel' frames frames' : ℕ} {c : Control (M .Code)} {S : PlainStack M} {n i : ℕ} {p : Place} {k k' : ℕ}
       → HeartbeatStops M N fuel frames c S n i p k → fuel ≡ fuel' → frames ≡ frames' → k ≡ k' → HeartbeatStops M N fuel' frames' c S n i p k'
   hb-limits a f r e = rw (f, r, e) at a
+
+  -- And the credits.
+  at-credits : {m : Schedule} {fuel frames : ℕ} {c : Control (M .Code)} {S : PlainStack M} {n n' i : ℕ} {p : Place} {k : ℕ}
+      → Stops M m fuel frames c S n i p k → n ≡ n' → Stops M m fuel frames c S n' i p k
+  at-credits a e = rw e at a
+
+  hb-credits : {N fuel frames : ℕ} {c : Control (M .Code)} {S : PlainStack M} {n n' i : ℕ} {p : Place} {k : ℕ}
+      → HeartbeatStops M N fuel frames c S n i p k → n ≡ n' → HeartbeatStops M N fuel frames c S n' i p k
+  hb-credits a e = rw e at a
 
   pub of-seq-stop : {fuel frames : ℕ} {c : Control (M .Code)} {S : PlainStack M} {i : ℕ} {p : Place} {k : ℕ} (n : ℕ)
       → SequentialStops M fuel frames c S i p k → Stops M sequential fuel frames c S n i p k
@@ -79,10 +88,7 @@ module _ {M : FrameMachine} where
   par-left : {fuel free : ℕ} {c d : Control (M .Code)} {S N Y : PlainStack M} {b : M .Fork} {n i : ℕ} {p : Place} {k : ℕ}
       → Splits M parallel c S n d N b Y → ParallelStops M fuel free d N i p k → ParallelStops M fuel (length Y + 1 + free) c S i p k
   unfolding promotion-due
-  par-left {fuel} {free} {k = k} (at-birth q h) a =
-      par-limits
-      (par-stops-left {fuel = fuel} {free = free} {k = k} h (par-limits a (omega arith) (omega arith) (omega arith)))
-      (omega arith) (omega arith) (omega arith)
+  par-left (at-birth q h) a = par-limits (par-stops-left h a) (omega arith) (omega arith) (omega arith)
   par-left (at-promotion s q o) a = absurd (true≢false (sym q))
 
   par-right : {fuel free : ℕ} {c d : Control (M .Code)} {S N Y : PlainStack M} {b : M .Fork} {n u : ℕ} {g : CostGraph} {k1 p1 i : ℕ}
@@ -128,16 +134,17 @@ module _ {M : FrameMachine} where
   pub of-hb-stop : {N fuel frames : ℕ} {c : Control (M .Code)} {S : PlainStack M} {n i : ℕ} {p : Place} {k : ℕ}
       → HeartbeatStops M N fuel frames c S n i p k → Stops M (heartbeat N) fuel frames c S n i p k
   unfolding promotion-due promoted-at-birth
-  of-hb-stop {N} (hb-halts {S = S} {n = n} q x) = by-halt (not-due N n (can-promote S) (λ e. cc) q) refl x
+  of-hb-stop {N} (hb-halts {S = S} {n = n} q x) = at-credits (by-halt (not-due N n (can-promote S) (λ e. cc) q) refl x) (omega arith)
   of-hb-stop {N} (hb-stops-later {S = S} {n = n} q x l d) =
       at-limits (after-step (not-due N n (can-promote S) (λ e. cc) q) refl x (of-hb-stop d) (omega arith)) (omega arith) (omega arith)
       (omega arith)
-  of-hb-stop {N} (hb-stops-left {n = n} b Y q o d) = at-limits (in-left (due N n b Y (omega arith) (cc)) (of-hb-stop d)) (omega arith) (omega arith) (omega arith)
+  of-hb-stop {N} (hb-stops-left {n = n} b Y q o d) =
+      at-limits (in-left (due N n b Y (omega arith) (cc)) (of-hb-stop d)) (omega arith) (omega arith) (omega arith)
   of-hb-stop {N} (hb-stops-right {n = n} b Y q o d1 h1 d) =
       at-limits (in-right (due N n b Y (omega arith) (cc)) (of-hb d1) (of-hb-stop d) (omega arith)) (omega arith) (omega arith) (omega arith)
   of-hb-stop {N} (hb-stops-body {n = n} b Y q o d1 h1 d2 h2 d) =
-      at-limits (in-body (due N n b Y (omega arith) (cc)) (of-hb d1) (of-hb d2) (of-hb-stop d) (omega arith) (omega arith)) (omega arith) (omega arith)
-      (omega arith)
+      at-limits (in-body (due N n b Y (omega arith) (cc)) (of-hb d1) (of-hb d2) (of-hb-stop d) (omega arith) (omega arith)) (omega arith)
+      (omega arith) (omega arith)
 
   -- A promotion: the three ways to stop in it.
   hb-left : {N fuel free : ℕ} {c d : Control (M .Code)} {S X Y : PlainStack M} {b : M .Fork} {n i : ℕ} {p : Place} {k : ℕ}
@@ -145,12 +152,9 @@ module _ {M : FrameMachine} where
       → HeartbeatStops M N fuel (length Y + 1 + free) c S n i p k
   unfolding promotion-due promoted-at-birth
   hb-left (at-birth q h) a = absurd (true≢false (sym q))
-  hb-left {N} {fuel} {free} {k = k} (at-promotion {b = b} {older = Y} {n = n} s q o) a =
+  hb-left {N} (at-promotion {b = b} {older = Y} {n = n} s q o) a =
       let l = leb-true N n (and-true (leb N n) true q .0) in
-      rw s (hb-limits
-      (hb-stops-left {fuel = fuel} {free = free} {n = n} {k = k} b Y (omega arith) (cc)
-      (hb-limits a (omega arith) (omega arith) (omega arith)))
-      (omega arith) (omega arith) (omega arith))
+      rw s (hb-limits (hb-stops-left {n = n} b Y (omega arith) (cc) a) (omega arith) (omega arith) (omega arith))
 
   hb-right : {N fuel free : ℕ} {c d : Control (M .Code)} {S X Y : PlainStack M} {b : M .Fork} {n u : ℕ} {g : CostGraph} {k1 p1 i : ℕ}
       {p : Place} {k : ℕ}
@@ -182,7 +186,8 @@ module _ {M : FrameMachine} where
   pub to-hb-stop : {N fuel frames : ℕ} {c : Control (M .Code)} {S : PlainStack M} {n i : ℕ} {p : Place} {k : ℕ}
       → Stops M (heartbeat N) fuel frames c S n i p k → HeartbeatStops M N fuel frames c S n i p k
   unfolding promotion-due promoted-at-birth
-  to-hb-stop {N} (by-halt {S = S} {n = n} q f x) = hb-halts {S = S} (due-not N n (can-promote S) (λ e. cc) q) x
+  to-hb-stop {N} (by-halt {S = S} {n = n} q f x) =
+      hb-credits (hb-halts {S = S} {n = n} (due-not N n (can-promote S) (λ e. cc) q) x) (omega arith)
   to-hb-stop (by-no-frame q e l) = absurd (true≢false (sym q))
   to-hb-stop {N} (after-step {fuel = fuel} {frames = frames} {S = S} {n = n} q f x a l) =
       hb-limits

@@ -62,7 +62,7 @@ module _ (M : FrameMachine) where
     seq-halts : {fuel frames : ℕ} {c : Control (M .Code)} {S : PlainStack M} {i : ℕ} {p : Place}
         → Halts fuel frames c S i p
         → SequentialStops fuel frames c S i p 0
-    -- SEQSTEP: it is taken, and the rest stops.
+    -- SEQSTEP: it is taken, to a stack that the frames hold, and the rest stops.
     seq-stops-later : {fuel frames : ℕ} {c d : Control (M .Code)} {S T : PlainStack M} {i : ℕ} {p : Place} {k : ℕ}
         → Transition M c S d T
         → length T ≤ frames
