@@ -47,16 +47,16 @@ pub zeroed : (ws ws′ : List ℕ) (n : ℕ) (r : Answer) → ws′ ≡ replicat
 zeroed ws ws′ n r e l left = e ∙ ap (λ (k : ℕ). replicate k 0) l ∙ sym left
 
 -- `asked` are the words of the workspace that the check was told of
-module _ (w arguments : List ℕ) (fuel N τ size asked : ℕ) where
-  pub tells-run : checkedOf w (length arguments) fuel N τ asked ≡ reading.Accepted → Admitted w (length arguments) fuel N τ asked → asked ≡ size
+module _ (w arguments : List ℕ) (fuel N τ size asked : ℕ) (read : Reading) (told : read ≡ checkedOf w (length arguments) fuel N τ asked) where
+  pub tells-run : read ≡ reading.Accepted → Admitted w (length arguments) fuel N τ asked → asked ≡ size
       → (plan : Plan) (r : Answer) → Ran w arguments size plan r → plan .fuel .0 ≡ fuel → plan .tau ≡ τ
       → Tells w arguments fuel N τ size (plan .birth) (plan .period) r
   tells-run e a same plan r ran f t m h =
-      (rw (f, t) at (ran .answers m (rw f (h (a .fuel .most))))) ∙ answer-run m w arguments fuel N τ size (rw same at e)
+      (rw (f, t) at (ran .answers m (rw f (h (a .fuel .most))))) ∙ answer-run m w arguments fuel N τ size (rw same at (sym told ∙ e))
 
-  pub tells-refusal : (f : Refusal) → checkedOf w (length arguments) fuel N τ asked ≡ reading.Refused f → asked ≡ size
+  pub tells-refusal : (f : Refusal) → read ≡ reading.Refused f → asked ≡ size
       → (birth : Bool) (pace : ℕ) → Tells w arguments fuel N τ size birth pace (Refused f)
-  tells-refusal f e same birth pace m h = answer-refused m w arguments fuel N τ size f (rw same at e)
+  tells-refusal f e same birth pace m h = answer-refused m w arguments fuel N τ size f (rw same at (sym told ∙ e))
 
 -- ONE WORKSPACE: by what the check says
 unfoldable leftAfter : Reading → List ℕ → List ℕ

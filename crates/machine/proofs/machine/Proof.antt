@@ -1,5 +1,5 @@
 -- `machine::machine` meets its contract: the check's answer decides between the run and the refusal (proofs/Machines.antt). Assumes nothing.
-use mathlib.Core.Path.{refl, sym, _∙_}
+use mathlib.Core.Path.{refl}
 use native.Mathlib.Omega.{arith}
 use Rattle.machine.specs.Workspace.{leftBy}
 use Rattle.machine.proofs.Machines.{tells-run, tells-refusal}
@@ -23,11 +23,11 @@ same-length : tie.Need-same-length
 same-length c = search needs
 
 returns : tie.Need-returns
-returns c = let a = c .before .before .before .before .before .before .before .checked .ensures .1 .0 (c .before .before .before .before .enum-told .given .1) in (tells-run (c .before .before .before .before .before .before .before .before .before .before .before .args .words .now) (c .before .before .before .before .before .before .before .before .before .before .before .args .arguments .now) _ _ _ _ _ (sym (c .before .before .before .before .before .before .before .checked .ensures .0) ∙ c .before .before .before .before .enum-told .given .1) a (omega arith) _ _ (c .before .before .launch .ensures .0) (omega arith) (omega arith), c .before .before .launch .ensures .1)
+returns c = let a = c .before .before .before .before .before .before .before .checked .ensures .1 .0 (c .before .before .before .before .enum-told .given .1) in (tells-run (c .before .before .before .before .before .before .before .before .before .before .before .args .words .now) (c .before .before .before .before .before .before .before .before .before .before .before .args .arguments .now) _ _ _ _ _ _ (c .before .before .before .before .before .before .before .checked .ensures .0) (c .before .before .before .before .enum-told .given .1) a (omega arith) _ _ (c .before .before .launch .ensures .0) (omega arith) (omega arith), c .before .before .launch .ensures .1)
 
 returns-2 : tie.Need-returns-2
 unfolding leftBy
-returns-2 c = (tells-refusal (c .before .before .before .before .before .before .before .before .args .words .now) (c .before .before .before .before .before .before .before .before .args .arguments .now) _ _ _ _ _ _ (sym (c .before .before .before .before .checked .ensures .0) ∙ c .before .read .given .1) (omega arith) _ _, refl)
+returns-2 c = (tells-refusal (c .before .before .before .before .before .before .before .before .args .words .now) (c .before .before .before .before .before .before .before .before .args .arguments .now) _ _ _ _ _ _ (c .before .before .before .before .checked .ensures .0) _ (c .before .read .given .1) (omega arith) _ _, refl)
 
 pub machine-spec : {M : Type 1} → statement M
 machine-spec =
