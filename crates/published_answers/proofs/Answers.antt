@@ -26,12 +26,12 @@ use Rattle.language.proofs.Told.{answer-refused, ran-unrefused}
 use Rattle.language.proofs.Places.{same-place}
 use Rattle.language.proofs.Stops.{stop-of}
 use Rattle.published.specs.CostGraph.{work-of, span-of, fork-count, flat}
-use Rattle.published.specs.Adequacy.{Judgment, Reaches, Told}
+use Rattle.published.specs.Adequacy.{Judgment, Told}
 use Rattle.published.specs.StopTheorems.{StopsSo}
 use Rattle.published.proofs.CostGraph.{work-flat, span-flat}
-use Rattle.published.proofs.Adequacy.{adequate, stop-reaches-none}
+use Rattle.published.proofs.Adequacy.{adequate}
 use Rattle.published.proofs.Stops.{stop-iff-derived}
-use Rattle.published_answers.specs.Answers.{judged, Counted, placeOf, stops-judged, Published, DemandTwo}
+use Rattle.published_answers.specs.Answers.{judged, Counted, placeOf, stops-judged, Published, DemandTwo, NoneBesideStop}
 
 -- The counts of an answer that has a value.
 counts-of : Counts → Answer → Counts
@@ -87,17 +87,6 @@ module _ (m : Schedule) (w arguments : List ℕ) (fuel τ workspace : ℕ) where
       ap (toldBy τ) e
       ∙ ap (Value v) (same-counts refl refl (omega (arith, work-flat τ g)) (omega (arith, span-flat τ g)) ∙ sym (c .counts-are))
 
-  none-reached : (s : Stop) (o : Result graphs (language w)) → ran ≡ o → toldBy τ o ≡ Stopped s → (v : ℕ)
-      → Reaches J fuel (framesIn workspace) v → ⊥
-  unfolding toldBy
-  none-reached s (ended (value u) g t) e q v r = let no : _≡_ {A = ℕ} 0 1 = cc in omega arith
-  none-reached s (ended (stop i p) g t) e q v r = stop-reaches-none (language w) fuel (framesIn workspace) m (entryCode arguments) i p g t e v r
-  none-reached s (ongoing u) e q v r =
-      let a = adequate (language w) fuel (framesIn workspace) m (entryCode arguments) v (flat (r .graph)) _ .1
-      (record { reaches = r; graph-is = refl; transitions-are = refl; forks-are = refl; deepest-is = refl }) in
-      let no : _≡_ {A = ℕ} 0 1 = cc in
-      omega arith
-
 module _ (m : Schedule) (w arguments : List ℕ) (fuel τ workspace : ℕ) where
   abbrev Derives : Stop → Type 0
   Derives s = stops-judged m w arguments fuel (framesIn workspace) s
@@ -143,13 +132,6 @@ module _ (m : Schedule) (w arguments : List ℕ) (fuel N τ workspace : ℕ) whe
   from-check v k reading.Accepted e q = (e, from-run m w arguments fuel τ workspace v k _ refl q)
   from-check v k (reading.Refused r) e q = let no : _≡_ {A = ℕ} 0 1 = cc in absurd (omega arith)
 
-  none-checked : (s : Stop) (r : Reading) → checkedOf w (length arguments) fuel N τ workspace ≡ r → afterCheck r ran-by ≡ Stopped s
-      → (v : ℕ)
-      → Reaches (judged m w arguments) fuel (framesIn workspace) v → ⊥
-  unfolding afterCheck runOf
-  none-checked s reading.Accepted e q = none-reached m w arguments fuel τ workspace s _ refl q
-  none-checked s (reading.Refused r) e q = λ v d. let no : _≡_ {A = ℕ} 0 1 = cc in omega arith
-
   stop-from-check : (s : Stop) (r : Reading) → checkedOf w (length arguments) fuel N τ workspace ≡ r → afterCheck r ran-by ≡ Stopped s
       → (checkedOf w (length arguments) fuel N τ workspace ≡ reading.Accepted) × stops-judged m w arguments fuel (framesIn workspace) s
   unfolding afterCheck runOf
@@ -177,7 +159,6 @@ module _ (m : Schedule) (w arguments : List ℕ) (fuel N τ workspace : ℕ) whe
       λ e. let r = stop-from-check s _ refl e in ((cc), r .1),
       λ c. accepted (cc) (stop-to-run m w arguments fuel τ workspace s (c .1)),
     );
-    stop-none = λ s e. none-checked s _ refl e;
     refusal-iff = λ f. (λ e. refused-by-check f _ e, λ c. sym (answer-refused m w arguments fuel N τ workspace f c));
   }
 
@@ -192,3 +173,13 @@ demand-2 w arguments fuel N τ workspace = record {
 pub published-of : (m : Schedule) (w arguments : List ℕ) (fuel N τ workspace : ℕ) (r : Answer) → r ≡ answerOf m w arguments fuel N τ workspace
     → Published m w arguments fuel N τ workspace r
 published-of m w arguments fuel N τ workspace r e = rw e (by-schedule m w arguments fuel N τ workspace)
+
+pub none-beside-stop : NoneBesideStop
+none-beside-stop m w arguments fuel N τ workspace r p s e v d =
+    let accepts = p .stop-iff s .0 e .0 in
+    let k : Counts = countsOf (judged m w arguments .transitions (d .derivation)) (fork-count (d .graph)) (work-of τ (d .graph)) (span-of τ (d .graph)) in
+    let c : Counted (judged m w arguments) fuel (framesIn workspace) τ v k
+    = record { reaches = d; counts-are = same-counts refl refl (omega arith) (omega arith) } in
+    let q = p .value-iff v k .1 ((cc), at-frames c (omega arith)) in
+    let no : _≡_ {A = ℕ} 0 1 = cc in
+    omega arith

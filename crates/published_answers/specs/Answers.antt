@@ -1,8 +1,7 @@
 -- DEMAND 2, as a reader of document 004 can check it: all of an answer, by its three cases. Each machine answers a value iff it accepts its input and the
 -- figure's judgment derives that value within the fuel and the frames of the workspace; the counts in the answer are those of the derivation and of its
--- cost graph. It answers a stop iff it accepts its input and the rules of stops beside that figure derive its number, its place and its transitions; and
--- where it answers a stop, the judgment derives nothing within them. It answers a refusal iff the check gives it. Judgments and stops are in crate
--- `published`, specs/Judgments.antt and specs/Stops.antt, rule by rule.
+-- cost graph. It answers a stop iff it accepts its input and the rules of stops beside that figure derive its number, its place and its transitions. It
+-- answers a refusal iff the check gives it. Judgments and stops are in crate `published`, specs/Judgments.antt and specs/Stops.antt, rule by rule.
 use Prim.Native.Nat.{ℕ}
 use mathlib.Core.Path.{_≡_}
 use mathlib.Core.List.{List}
@@ -48,7 +47,6 @@ pub record Published (m : Schedule) (w arguments : List ℕ) (fuel N τ workspac
   pub stop-iff : (s : Stop)
       → (r ≡ Stopped s) ↔ ((checkedOf w (length arguments) fuel N τ workspace ≡ reading.Accepted)
       × stops-judged m w arguments fuel (framesIn workspace) s)
-  pub stop-none : (s : Stop) → r ≡ Stopped s → (v : ℕ) → Reaches (judged m w arguments) fuel (framesIn workspace) v → ⊥
   pub refusal-iff : (f : Refusal) → (r ≡ Refused f) ↔ (checkedOf w (length arguments) fuel N τ workspace ≡ reading.Refused f)
 
 pub record AllPublished (w arguments : List ℕ) (fuel N τ workspace : ℕ) : Type 0 where
@@ -60,3 +58,8 @@ pub record AllPublished (w arguments : List ℕ) (fuel N τ workspace : ℕ) : T
 -- three functions answer `sequentialOf`, `parallelOf` and `heartbeatOf`.
 abbrev pub DemandTwo : Type 0
 DemandTwo = (w arguments : List ℕ) (fuel N τ workspace : ℕ) → AllPublished w arguments fuel N τ workspace
+
+-- THEOREM (`none-beside-stop`), of any such answer: where it is a stop, the judgment derives no value within the fuel and the frames.
+abbrev pub NoneBesideStop : Type 0
+NoneBesideStop = (m : Schedule) (w arguments : List ℕ) (fuel N τ workspace : ℕ) (r : Answer) → Published m w arguments fuel N τ workspace r
+    → (s : Stop) → r ≡ Stopped s → (v : ℕ) → Reaches (judged m w arguments) fuel (framesIn workspace) v → ⊥
