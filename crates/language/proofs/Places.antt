@@ -1,6 +1,6 @@
 -- The node of a frame or of a fork is the one whose evaluation opened it.
 use Prim.Native.Nat.{ℕ, zero, suc}
-use mathlib.Core.Path.{_≡_, ap, _∙_}
+use mathlib.Core.Path.{_≡_}
 use mathlib.Core.Bool.{Bool, true, false, cond}
 use mathlib.Core.List.{List, [], _∷_, _++_}
 use native.Mathlib.Omega.{arith}
@@ -8,8 +8,10 @@ use lib.Dec.{ltb}
 use lib.ListN.{length}
 use Rattle.table.specs.declared.Node.{Node}
 use Rattle.table.specs.declared.Node.the-variants.{Constant, Local, Arithmetic, Choose, Let, Call, Both, Unknown}
-use Rattle.table.specs.Words.{arityAt}
-use Rattle.schedule.specs.FrameMachine.{Place, evaluate, open-frame, open-fork, close, keep}
+use Rattle.table.specs.Words.{arityAt, startOf}
+use Rattle.table.specs.Nodes.{nodeAt}
+use Rattle.schedule.specs.FrameMachine.{Place, evaluate, go-on, open-frame, open-fork, stuck, close, keep, fail}
+use Rattle.schedule.specs.FrameMachine.{Next as FlatNext, Arrival as FlatArrival}
 use Rattle.arithmetic.specs.declared.Computed.{Computed}
 use Rattle.arithmetic.specs.declared.Computed.the-variants.{Is, Fails}
 use Rattle.arithmetic.specs.Operate.{computed}
@@ -21,69 +23,68 @@ use Rattle.language.specs.Places.{FramesPlaced}
 pub same-place : {f n f' n' : ℕ} → f ≡ f' → n ≡ n' → _≡_ {A = Place} (record { function = f; node = n }) (record { function = f'; node = n' })
 same-place a b = rw (a, b)
 
+-- Of the place p is the frame or the fork that is opened at a node, and the frame that is kept at a value's return, if there is one.
+abbrev OpensAt : List ℕ → Place → FlatNext Code Frame Code → Type 0
+OpensAt w p (go-on c) = Unit {0}
+OpensAt w p (open-frame f d) = frame-place f ≡ p
+OpensAt w p (open-fork b d) = language.language w .fork-place b ≡ p
+OpensAt w p (stuck i) = Unit {0}
+
+abbrev KeepsAt : Place → FlatArrival Code Frame → Type 0
+KeepsAt p (close c) = Unit {0}
+KeepsAt p (keep f d) = frame-place f ≡ p
+KeepsAt p (fail i) = Unit {0}
+
 module _ (w : List ℕ) where
-  opened-at : (c d : Code) (f : Frame) (o : Node) → next w c o ≡ open-frame f d → frame-place f ≡ place c
+  opened-at : (c : Code) (o : Node) → OpensAt w (place c) (next w c o)
   unfolding next language.call
-  opened-at c d f (Constant v) e = let no : _≡_ {A = ℕ} 0 1 = cc in absurd (omega arith)
-  opened-at c d f (Local v) e = let no : _≡_ {A = ℕ} 0 1 = cc in absurd (omega arith)
-  opened-at c d f (Arithmetic o b) e = let q : f ≡ left-operand c = cc in ap frame-place q ∙ same-place (omega arith) (omega arith)
-  opened-at c d f (Choose a b) e = let q : f ≡ condition c = cc in ap frame-place q ∙ same-place (omega arith) (omega arith)
-  opened-at c d f (Let b) e = let q : f ≡ binding c = cc in ap frame-place q ∙ same-place (omega arith) (omega arith)
-  opened-at c d f (Call g a b) e = on (arityAt w g) e
+  opened-at c (Constant v) = tt
+  opened-at c (Local v) = tt
+  opened-at c (Arithmetic o b) = same-place (omega arith) (omega arith)
+  opened-at c (Choose a b) = same-place (omega arith) (omega arith)
+  opened-at c (Let b) = same-place (omega arith) (omega arith)
+  opened-at c (Call g a b) = on (arityAt w g)
     where
-      on : (n : ℕ) → language.call w c g n ≡ open-frame f d → frame-place f ≡ place c
-      on zero e = let no : _≡_ {A = ℕ} 0 1 = cc in absurd (omega arith)
-      on (suc n) e = let q : f ≡ argument c [] = cc in ap frame-place q ∙ same-place (omega arith) (omega arith)
-  opened-at c d f (Both a b) e = let no : _≡_ {A = ℕ} 0 1 = cc in absurd (omega arith)
-  opened-at c d f Unknown e = let no : _≡_ {A = ℕ} 0 1 = cc in absurd (omega arith)
+      on : (n : ℕ) → OpensAt w (place c) (language.call w c g n)
+      on zero = tt
+      on (suc n) = same-place (omega arith) (omega arith)
+  opened-at c (Both a b) = same-place (omega arith) (omega arith)
+  opened-at c Unknown = tt
 
-  forked-at : (c d b : Code) (o : Node) → next w c o ≡ open-fork b d → b ≡ c
-  unfolding next language.call
-  forked-at c d b (Constant v) e = let no : _≡_ {A = ℕ} 0 1 = cc in absurd (omega arith)
-  forked-at c d b (Local v) e = let no : _≡_ {A = ℕ} 0 1 = cc in absurd (omega arith)
-  forked-at c d b (Arithmetic o x) e = let no : _≡_ {A = ℕ} 0 1 = cc in absurd (omega arith)
-  forked-at c d b (Choose x y) e = let no : _≡_ {A = ℕ} 0 1 = cc in absurd (omega arith)
-  forked-at c d b (Let x) e = let no : _≡_ {A = ℕ} 0 1 = cc in absurd (omega arith)
-  forked-at c d b (Call g x y) e = on (arityAt w g) e
-    where
-      on : (n : ℕ) → language.call w c g n ≡ open-fork b d → b ≡ c
-      on zero e = let no : _≡_ {A = ℕ} 0 1 = cc in absurd (omega arith)
-      on (suc n) e = let no : _≡_ {A = ℕ} 0 1 = cc in absurd (omega arith)
-  forked-at c d b (Both x y) e = cc
-  forked-at c d b Unknown e = let no : _≡_ {A = ℕ} 0 1 = cc in absurd (omega arith)
-
-  not-kept : (r : Computed) (f : Frame) (d : Code) → result r ≡ keep f d → ⊥
+  result-at : (p : Place) (r : Computed) → KeepsAt p (result r)
   unfolding result
-  not-kept (Is v) f d e = let no : _≡_ {A = ℕ} 0 1 = cc in omega arith
-  not-kept (Fails i) f d e = let no : _≡_ {A = ℕ} 0 1 = cc in omega arith
+  result-at p (Is v) = tt
+  result-at p (Fails i) = tt
 
-  not-operated : (o : Node) (x v : ℕ) (f : Frame) (d : Code) → operated o x v ≡ keep f d → ⊥
+  operated-at : (p : Place) (o : Node) (x v : ℕ) → KeepsAt p (operated o x v)
   unfolding operated
-  not-operated (Constant u) x v f d e = let no : _≡_ {A = ℕ} 0 1 = cc in omega arith
-  not-operated (Local u) x v f d e = let no : _≡_ {A = ℕ} 0 1 = cc in omega arith
-  not-operated (Arithmetic o b) x v f d e = not-kept (computed o x v) f d e
-  not-operated (Choose a b) x v f d e = let no : _≡_ {A = ℕ} 0 1 = cc in omega arith
-  not-operated (Let b) x v f d e = let no : _≡_ {A = ℕ} 0 1 = cc in omega arith
-  not-operated (Call g a b) x v f d e = let no : _≡_ {A = ℕ} 0 1 = cc in omega arith
-  not-operated (Both a b) x v f d e = let no : _≡_ {A = ℕ} 0 1 = cc in omega arith
-  not-operated Unknown x v f d e = let no : _≡_ {A = ℕ} 0 1 = cc in omega arith
+  operated-at p (Constant u) x v = tt
+  operated-at p (Local u) x v = tt
+  operated-at p (Arithmetic o b) x v = result-at p (computed o x v)
+  operated-at p (Choose a b) x v = tt
+  operated-at p (Let b) x v = tt
+  operated-at p (Call g a b) x v = tt
+  operated-at p (Both a b) x v = tt
+  operated-at p Unknown x v = tt
 
-  kept-at : (f g : Frame) (v : ℕ) (d : Code) → arrive w f v ≡ keep g d → frame-place g ≡ frame-place f
+  kept-at : (f : Frame) (v : ℕ) → KeepsAt (frame-place f) (arrive w f v)
   unfolding arrive gathered
-  kept-at (left-operand c) g v d e = let q : g ≡ right-operand c v = cc in ap frame-place q ∙ same-place (omega arith) (omega arith)
-  kept-at (right-operand c x) g v d e = absurd (not-operated _ x v g d e)
-  kept-at (condition c) g v d e = let no : _≡_ {A = ℕ} 0 1 = cc in absurd (omega arith)
-  kept-at (binding c) g v d e = let no : _≡_ {A = ℕ} 0 1 = cc in absurd (omega arith)
-  kept-at (argument c vs) g v d e = on (ltb (length (vs ++ (v ∷ []))) (arityAt w (language.called w c))) _ _ e
+  kept-at (left-operand c) v = same-place (omega arith) (omega arith)
+  kept-at (right-operand c x) v = operated-at _ _ x v
+  kept-at (condition c) v = tt
+  kept-at (binding c) v = tt
+  kept-at (argument c vs) v = on (ltb (length (vs ++ (v ∷ []))) (arityAt w (language.called w c))) _ _
     where
-      on : (t : Bool) (x y : Code) → cond t (keep (argument c (vs ++ (v ∷ []))) x) (close (evaluate y)) ≡ keep g d
-          → frame-place g ≡ frame-place (argument c vs)
-      on true x y e = let q : g ≡ argument c (vs ++ (v ∷ [])) = cc in ap frame-place q ∙ same-place (omega arith) (omega arith)
-      on false x y e = let no : _≡_ {A = ℕ} 0 1 = cc in absurd (omega arith)
+      on : (t : Bool) (x y : Code) → KeepsAt (frame-place (argument c vs)) (cond t (keep (argument c (vs ++ (v ∷ []))) x) (close (evaluate y)))
+      on true x y = same-place (omega arith) (omega arith)
+      on false x y = tt
 
 pub frames-placed : FramesPlaced
 frames-placed w = record {
-  opened = λ c d f e. opened-at w c d f _ e;
-  kept = λ f g v d e. kept-at w f g v d e;
-  forked = λ c d b e. rw (forked-at w c d b _ e) (same-place (omega arith) (omega arith));
+  opened = λ c d f e. rw e at (at-node c);
+  kept = λ f g v d e. rw e at (kept-at w f v);
+  forked = λ c d b e. rw e at (at-node c);
 }
+  where
+    at-node : (c : Code) → OpensAt w (place c) (language.language w .next c)
+    at-node c = opened-at w c (nodeAt w (startOf w (c .function)) (c .node))
