@@ -1,4 +1,4 @@
--- What it is that a machine of the paper STOPS (01, "Stopped by the run's state"; demand 2: "A stop names the first step that could not be taken").
+-- What it is that a machine of the paper STOPS (01, "Stopped by the run's state"; demand 2: a stop names the first step that could not be taken).
 -- Document 004 has no stops, since its machines have no fuel and no frames to spend. So beside each rule of Figures 4 to 6 stand the rules of a stop: a
 -- machine stops where its next step cannot be taken, or it takes the rule's step and stops later, or one of the rule's premises stops, when those before
 -- it have their values. No flat machine is meant here: a machine is a control with a stack, as in Judgments.antt.
