@@ -109,10 +109,10 @@ stop-of-call machine w arguments fuel N τ workspace out c one-kind =
     let l = stops-listed (scheduled machine N) w arguments fuel N τ workspace (a .0) (sym (by-number machine w arguments fuel N τ workspace) ∙ a .1) in
     let ws = rw (a .1) at f in
     record {
-      least = rw (ws .told) (l .least);
-      most = rw (ws .told) (l .most);
+      least = omega (arith, ws .told, l .least);
+      most = omega (arith, ws .told, l .most);
       function = rw (ws .function) (l .function);
       node = rw (ws .node, ws .function) (l .node);
-      within-fuel = rw (ws .transitions) (l .within-fuel);
+      within-fuel = omega (arith, ws .transitions, l .within-fuel);
       spent = λ e. ws .transitions ∙ l .spent (sym (ws .told) ∙ e);
     }
