@@ -12,6 +12,10 @@ use Rattle.arithmetic.specs.declared.Computed.the-variants.{Is, Fails}
 pub fits : (n : ℕ) → n < 2 ^ 64 → Is n ≡ cond (ltb n (2 ^ 64)) (Is n) (Fails 22)
 fits n h = rw lt-ltb
 
+-- in whatever way it is written
+pub fits-as : (n r : ℕ) → r ≡ n → n < 2 ^ 64 → Is r ≡ cond (ltb n (2 ^ 64)) (Is n) (Fails 22)
+fits-as n r e h = rw (e, lt-ltb)
+
 pub above : (n : ℕ) → 2 ^ 64 ≤ n → Fails 22 ≡ cond (ltb n (2 ^ 64)) (Is n) (Fails 22)
 above n h = rw le-ltb
 

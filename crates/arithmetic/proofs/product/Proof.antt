@@ -4,7 +4,7 @@ use native.Mathlib.Nat.{mul-zero}
 use native.Mathlib.Omega.{arith}
 use borrow.Author.Needs.{needs}
 use Rattle.arithmetic.specs.Operate.{computed}
-use Rattle.arithmetic.proofs.Cases.{fits, above, product-within, product-beyond}
+use Rattle.arithmetic.proofs.Cases.{fits-as, above, product-within, product-beyond}
 use Rattle.arithmetic.proofs.product.Statement.{statement}
 use Rattle.arithmetic.proofs.product.Tie as tie
 
@@ -21,8 +21,10 @@ mul-t6 c = omega (arith, product-within (c .before .if1 .left) (c .if2 .taken))
 returns-2 : tie.Need-returns-2
 unfolding computed
 returns-2 c =
-    fits
+    fits-as
     (c .before .before .args .x * c .before .before .args .y)
+    _
+    (omega arith)
     (omega (arith, product-within (c .before .if1 .left) (c .if2 .taken)))
 
 returns-3 : tie.Need-returns-3
