@@ -18,7 +18,7 @@ use Rattle.language.proofs.Stops.{stops-listed}
 use Rattle.capi.specs.declared.Words.{Words}
 use Rattle.capi.specs.Words.{answerWords, written}
 use Rattle.capi.specs.Calls.{answerBy}
-use Rattle.capi.specs.Claims.{Wrote, ThreeCalls, StopOfCall}
+use Rattle.capi.specs.Claims.{CallWrote, ThreeCalls, StopOfCall}
 use Rattle.capi.proofs.Serving.{serving}
 
 -- the eight words at the front of a buffer
@@ -47,7 +47,7 @@ front (a ∷ b ∷ c ∷ d ∷ e ∷ f ∷ g ∷ i ∷ rest) w h =
 
 module _ {machine : ℕ} {w arguments : List ℕ} {fuel N τ workspace : ℕ} {out′ : List ℕ} where
   -- what a call wrote is the machine's answer
-  tells : Wrote machine w arguments fuel N τ workspace out′ → Front out′ (answerWords (answerBy machine w arguments fuel N τ workspace))
+  tells : CallWrote machine w arguments fuel N τ workspace out′ → Front out′ (answerWords (answerBy machine w arguments fuel N τ workspace))
   tells c =
       let h = serving machine (length (c .out)) (c .is-known) (c .has-room) in
       let e = rw (h, c .is-long) at (c .called .answer) in

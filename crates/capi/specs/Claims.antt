@@ -42,7 +42,7 @@ pub record FourOfWords (N τ : ℕ) (s p h : List ℕ) : Type 0 where
   pub identity : workIn h + 2 * forksIn h ≡ workIn s + τ * forksIn h
 
 -- a call that is served, of a machine, with a workspace of so many words: what it wrote
-pub record Wrote (machine : ℕ) (w arguments : List ℕ) (fuel N τ workspace : ℕ) (out′ : List ℕ) : Type 0 where
+pub record CallWrote (machine : ℕ) (w arguments : List ℕ) (fuel N τ workspace : ℕ) (out′ : List ℕ) : Type 0 where
   pub ws : List ℕ
   pub ws′ : List ℕ
   pub out : List ℕ
@@ -56,9 +56,9 @@ pub record Wrote (machine : ℕ) (w arguments : List ℕ) (fuel N τ workspace :
 -- sequential machine's answer is a value, the four statements hold.
 abbrev pub ThreeCalls : Type 0
 ThreeCalls = (w arguments : List ℕ) (fuel N τ workspace : ℕ) (s p h : List ℕ)
-    → Wrote 0 w arguments fuel N τ workspace s
-    → Wrote 1 w arguments fuel N τ workspace p
-    → Wrote 2 w arguments fuel N τ workspace h
+    → CallWrote 0 w arguments fuel N τ workspace s
+    → CallWrote 1 w arguments fuel N τ workspace p
+    → CallWrote 2 w arguments fuel N τ workspace h
     → kindIn s ≡ 0
     → FourOfWords N τ s p h
 
@@ -73,5 +73,5 @@ pub record StopIn (w : List ℕ) (fuel : ℕ) (out : List ℕ) : Type 0 where
   pub spent : toldIn out ≡ 20 → transitionsIn out ≡ fuel
 
 abbrev pub StopOfCall : Type 0
-StopOfCall = (machine : ℕ) (w arguments : List ℕ) (fuel N τ workspace : ℕ) (out : List ℕ) → Wrote machine w arguments fuel N τ workspace out
+StopOfCall = (machine : ℕ) (w arguments : List ℕ) (fuel N τ workspace : ℕ) (out : List ℕ) → CallWrote machine w arguments fuel N τ workspace out
     → kindIn out ≡ 1 → StopIn w fuel out
