@@ -7,6 +7,7 @@ use lib.ListN.{length, drop}
 use lib.Dec.{leb}
 use Rattle.language.specs.declared.Answer.{Answer}
 use Rattle.language.specs.Answers.{Machine, sequentialOf, parallelOf, heartbeatOf}
+use Rattle.language.specs.Stops.{StopListed}
 use Rattle.language.specs.Claim.{DemandThree}
 use Rattle.machine.specs.Workspace.{leftBy}
 use Rattle.report.specs.Input.{Job, wordsOf, jobOf, complete, whole}
@@ -52,6 +53,12 @@ DemandThreeOf job workspace =
     DemandThree (job .period) (job .tau) (answerTo sequentialOf job workspace) (answerTo parallelOf job workspace)
     (answerTo heartbeatOf job workspace)
 
+-- A stop that a report tells is listed.
+pub record StopsListedOf (job : Job) (workspace : ℕ) : Type 0 where
+  pub sequential-stop : StopListed (job .table) (job .fuel) (answerTo sequentialOf job workspace)
+  pub parallel-stop : StopListed (job .table) (job .fuel) (answerTo parallelOf job workspace)
+  pub heartbeat-stop : StopListed (job .table) (job .fuel) (answerTo heartbeatOf job workspace)
+
 -- WHAT A CALL TELLS. `ws` and `out` are the words of the workspace and the bytes of the output buffer at the call, `ws′` and `out′` those
 -- at its end, and r is the number of bytes written: the report, at the front of the buffer. A buffer of fewer than 512 bytes, which may be
 -- too few for a report, gets none: nothing runs then, and nothing is changed.
@@ -59,4 +66,5 @@ pub record Reported (bytes ws out ws′ out′ : List ℕ) (r : ℕ) : Type 0 wh
   pub number : r ≡ cond (leb 512 (length out)) (length (reportOf bytes (length ws))) 0
   pub written : out′ ≡ cond (leb 512 (length out)) (reportOf bytes (length ws) ++ drop (length (reportOf bytes (length ws))) out) out
   pub workspace : ws′ ≡ cond (leb 512 (length out)) (leftAfter bytes ws) ws
+  pub stops : StopsListedOf (jobOf (wordsOf bytes)) (length ws)
   pub demand-3 : DemandThreeOf (jobOf (wordsOf bytes)) (length ws)
