@@ -1,4 +1,4 @@
-# The status of report, and what it says beside a refusal or a stop.
+# The status of report and its explanations, beyond the stored reports (examples/check has those).
 
 # NUMBER: standard error explains it in the words of the table
 explained() {
@@ -6,18 +6,6 @@ explained() {
     [ -n "$row" ] || wrong "bin/numbers.txt has no $1"
     wrote err " $1: $row"
 }
-
-for stored in examples/*.report tests/report/*.report; do
-    status=0
-    ! grep -q ' stop ' "$stored" || status=2
-    ! grep -q '^refused ' "$stored" || status=1
-    ends "$status" ./report "${stored%.report}.job"
-    wrote_file "$stored"
-    numbers=$(awk '$1 == "refused" { print $2 } $2 == "stop" { print $3 }' "$stored" | sort -u)
-    for number in $numbers; do explained "$number"; done
-    seen=$((seen + 1))
-    [ "$(grep -c . "$work/err")" -eq "$(echo "$numbers" | grep -c .)" ] || { wrong "$stored: not one line for each number:"; cat "$work/err"; }
-done
 
 # a program that writes this file, whatever it is given
 says() {
