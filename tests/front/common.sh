@@ -1,6 +1,5 @@
-# What the parts share. They run at the top of the repository, with $work as a folder of their own.
+# What the parts share. They run at the top of the repository, with $work as a folder of their own, and count in $seen and $bad.
 top=$PWD
-bad=0 seen=0
 
 wrong() { echo "front, $part: $*"; bad=$((bad + 1)); }
 
@@ -33,16 +32,15 @@ wrote_file() {
 # the last command wrote nothing to standard output
 wrote_nothing() { : > "$work/nothing"; wrote_file "$work/nothing"; }
 
-# FOLDER: a copy of the repository, with nothing built, and beside it $work/tools/rt, a toolchain that replays what rt says of crates
-# that are proved already, puts the products of the repository in their places, and notes in $work/calls how it was called.
+# FOLDER: a copy of the repository, with nothing built, and beside it $work/tools/rt, a toolchain that replays what rt said
+# of the program and the library when they were built, puts the products of the repository in their places, and notes in $work/calls how
+# it was called.
 # Where RT_REFUSES is set, it refuses with that text instead.
 toy() {
     mkdir -p "$1" "$work/tools"
     # a repository without its history: all but .git and target/
     find . -mindepth 1 -maxdepth 1 ! -name .git ! -name target -exec cp -R {} "$1" \;
     : > "$work/calls"
-    rt check mondupil > "$work/check.said" 2>&1 || { wrong "rt check mondupil fails:"; cat "$work/check.said"; }
-    rt check capi > "$work/staticlib.said" 2>&1 || { wrong "rt check capi fails:"; cat "$work/staticlib.said"; }
     cat > "$work/tools/rt" <<END
 #!/bin/sh
 [ "\$1" = version ] || echo "\$*" >> "$work/calls"

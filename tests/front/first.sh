@@ -1,18 +1,25 @@
 # The first run: what README says is needed, what is said while the program is built, and the C program of README from nothing.
 toy "$work/toy"
 cd "$work/toy" || exit 1
-total=$(grep -c ' proved (' "$work/check.said")
-{ echo 'library table: modules loaded=470 checked=0'; cat "$work/check.said"; } > "$work/said" && mv "$work/said" "$work/check.said"
+{ echo 'a line of the prover'; cat "$work/check.said"; } > "$work/said" && mv "$work/said" "$work/check.said"
 
+# TOTAL: the last command said before the wait how many crates, how long and once; then a line for each crate, with the count
+told_progress() {
+    head -n 2 "$work/err" > "$work/before"
+    for text in "$1 crates" minutes once; do
+        seen=$((seen + 1))
+        grep -q "$text" "$work/before" || { wrong "'$text' is not said before the wait:"; cat "$work/before"; }
+    done
+    sed -n "s/^build: \([0-9]*\) of $1, .*/\1/p" "$work/err" > "$work/counts"
+    seq "$1" | diff - "$work/counts" || wrong "the crates are not counted from 1 to $1"
+    [ "$(wc -l < "$work/err")" -eq $(($1 + 2)) ] || { wrong "other lines than the crates':"; cat "$work/err"; }
+}
+
+ends 0 replayed bin/build library
+told_progress $(($(grep -c ' proved (' "$work/staticlib.said") + 1))
 ends 0 replayed ./report examples/table_a.job
 wrote_file "$top/examples/table_a.report"
-head -n 2 "$work/err" > "$work/before"
-seen=$((seen + 1))
-for text in "$total crates" minutes once; do grep -q "$text" "$work/before" || { wrong "'$text' is not said before the wait:"; cat "$work/before"; }; done
-# a line for each crate with the count, in order, and nothing else
-sed -n "s/^build: \([0-9]*\) of $total, .*/\1/p" "$work/err" > "$work/counts"
-seq "$total" | diff - "$work/counts" || wrong "the crates are not counted from 1 to $total"
-[ "$(wc -l < "$work/err")" -eq $((total + 2)) ] || { wrong "other lines than the crates':"; cat "$work/err"; }
+told_progress "$(grep -c ' proved (' "$work/check.said")"
 # the prover's text is in the log that is named
 log=$(grep -o 'target/[a-z/]*\.log' "$work/before")
 seen=$((seen + 1))
@@ -43,5 +50,6 @@ awk '/^```console$/ { inside = 1; next } /^```/ { inside = 0 } inside' "$work/se
 grep '^[$] ' "$work/console" | sed 's/^..//' > "$work/commands"
 grep -v '^[$] ' "$work/console" > "$work/shown"
 [ -s "$work/shown" ] || wrong "README shows no output of its C program"
-ends 0 replayed sh -e "$work/commands"
+replayed sh "$work/commands" > "$work/out" 2> "$work/err"
 wrote_file "$work/shown"
+[ "$bad" -eq 0 ] || cat "$work/err"

@@ -47,12 +47,16 @@ seen=$((seen + 1))
 ! grep -q 'the words of' "$work/out" || wrong "checks are run after rt has failed"
 
 # a tool that is missing is named before rt is called
+mkdir "$work/path"
+# shellcheck disable=SC2046
+find "$work/tools" $(echo "$PATH" | tr : '\n' | sort -u) -maxdepth 1 ! -type d -exec ln -sf -t "$work/path" {} +
+ln -sf "$work/tools/rt" "$work/path/rt"
 for tool in rt rustc cc; do
-    rm -rf "$work/path" && mkdir "$work/path" && : > "$work/calls"
-    # shellcheck disable=SC2046
-    find "$work/tools" $(echo "$PATH" | tr : '\n' | sort -u) -maxdepth 1 ! -name "$tool" ! -type d -exec ln -sf -t "$work/path" {} + 2> "$work/links"
+    mv "$work/path/$tool" "$work/aside"
+    : > "$work/calls"
     PATH=$work/path ends 1 bash .ci/run
     wrote out "$tool is not found"
     last '0 passed, 1 failed'
     called 0
+    mv "$work/aside" "$work/path/$tool"
 done
