@@ -43,8 +43,8 @@ input=$work/bad.job refuses 'standard input' 'line 3' -- ./report -
 ends 0 replayed ./report --help
 wrote out '--fuel' '--period' '--tau' "'-'" 'no JOB' 'Status' MONDUPIL
 called 0
-{ printf '\357\273\277'; sed 's/$/\r/' "$job"; } > "$work/marked.job"
-sed 's/#.*//; s/\([0-9][0-9]*\)/000000000000\1/g' "$job" > "$work/zeros.job"
+{ printf '\357\273\277'; sed 's/ *#.*//; s/$/\r/' "$job"; } > "$work/marked.job"
+sed 's/#.*//; s/\([0-9][0-9]*\)/000000000000000000000000000000\1/g' "$job" > "$work/zeros.job"
 sed 's/#.*//' "$job" | tr '\n' '\t' > "$work/one_line.job"
 cp "$job" "$work/a=b.job"
 cp "$job" ./--fuel

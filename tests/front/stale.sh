@@ -41,7 +41,7 @@ replaces() {
 # COMMAND..: where the sources are refused, the command fails with the reason and does not take what is there
 gives_up() {
     builds=$((builds + 1))
-    RT_REFUSES='rt: table NOT PROVED: a reason' ends "$@"
+    RT_REFUSES='crates/table/src/lib.rt:1:1: error: a reason' ends "$@"
     wrote err 'a reason'
     seen=$((seen + 1))
     ! grep -q value "$work/out" || { wrong "a stale report:"; cat "$work/out"; }

@@ -54,7 +54,7 @@ wrote_nothing
 wrote err "$work/none.job"
 
 # words as bin/words reads them
-{ printf '\357\273\277'; sed 's/ /\t/g; s/$/\r/' examples/tree_sum.job; } > "$work/tabs=.job"
+{ printf '\357\273\277'; sed 's/ *#.*//; s/ /\t/g; s/$/\r/' examples/tree_sum.job; } > "$work/tabs=.job"
 bin/sweep examples/tree_sum.job 50 1000 > "$work/plain"
 ends 0 bin/sweep "$work/tabs=.job" 050 01000
 wrote_file "$work/plain"
