@@ -1,7 +1,7 @@
 # The gate says what is missing before it proves anything, how far it is, and why a check failed; its last line is the tally.
 toy "$work/toy"
 cd "$work/toy" || exit 1
-checks=$(grep -o '[a-z/]*/\(run\|check\)\( \|\b\)' .ci/run | tr -d ' ' | sort -u | grep -v '^\.ci\|^/ci')
+checks=$(sed -n "s/^checks='\(.*\)'$/\1/p" .ci/run)
 printf 'rt: table proved (1 s)\nrt: must-fail table/x: refused, as it must be (1 s)\nrt: ok\n7 passed, 0 failed\n' > "$work/ci.said"
 cat > "$work/tools/rt" <<END
 #!/bin/sh
