@@ -1,7 +1,8 @@
 /* Three cost machines for fork-join jobs: the C interface.
  *
- * Link with libcapi.a, which `rt staticlib capi` writes to target/staticlib/. What is said here is proved of the library
- * (crates/capi/src/lib.rt and crates/capi/specs/) for every input; document 01 tells what a job table is and what a machine answers.
+ * Link with target/staticlib/libcapi.a, which `bin/build library` makes. What is said here is proved of the library
+ * (crates/capi/src/lib.rt and crates/capi/specs/) for every input. docs/JOBS.md teaches what a job table is and what the numbers of
+ * refusals and stops mean; docs/SOURCES.md has the rules.
  */
 #ifndef MONDUPIL_H
 #define MONDUPIL_H
