@@ -4,35 +4,25 @@ mod inputs;
 mod jobs;
 mod library;
 mod program;
+mod proved;
 mod report;
 mod second;
 mod settled;
 
 use jobs::{Dice, Input};
-use library::mondupil_run;
 use program::{Reports, Tally};
-use second::Machine::{self, *};
+use proved::{proved, Lent};
+use second::{Machine, ALL};
 use std::collections::{BTreeMap, BTreeSet};
-
-fn proved(m: u32, j: &Input, ws: &mut [u64], answer: &mut [u64]) -> u32 {
-    unsafe {
-        mondupil_run(
-            m, j.table.as_ptr(), j.table.len(), j.args.as_ptr(), j.args.len(), j.fuel, j.period, j.tau,
-            ws.as_mut_ptr(), ws.len(), answer.as_mut_ptr(), answer.len(),
-        )
-    }
-}
 
 fn by_second(m: Machine, j: &Input) -> [u64; 8] {
     second::run(m, &j.table, &j.args, j.fuel, j.period, j.tau, j.workspace).words()
 }
 
-const ALL: [Machine; 3] = [Sequential, Parallel, Heartbeat];
-
 /// What was compared, and what it was like.
 #[derive(Default)]
 struct Bench {
-    ws: Vec<u64>,
+    lent: Lent,
     jobs: u64,
     bad: u64,
     kinds: BTreeMap<&'static str, u64>,
@@ -65,26 +55,11 @@ impl Bench {
         *self.answers.entry(what).or_default() += 1;
     }
 
-    /// One machine, on a workspace full of garbage, with room for more than an answer.
     fn machine(&mut self, dice: &mut Dice, kind: &str, i: usize, j: &Input) -> [u64; 8] {
         let mine = by_second(ALL[i], j);
-        let garbage = dice.next();
-        let filled = |k: usize| garbage.wrapping_mul(2 * k as u64 + 1) | 1;
-        let mut ws = std::mem::take(&mut self.ws);
-        ws.clear();
-        ws.extend((0..j.workspace).map(filled));
-        let room = 8 + dice.below(3) as usize;
-        let mut answer: Vec<u64> = (0..room).map(|_| dice.next()).collect();
-        let before = answer.clone();
-        let r = proved(i as u32, j, &mut ws, &mut answer);
-        if r != 0 || answer[..8] != mine || answer[8..] != before[8..] {
-            self.fail(kind, j, format!("{:?}: proved {r} {answer:?}, second {mine:?}", ALL[i]));
+        for what in self.lent.differences(dice, i, j, mine) {
+            self.fail(kind, j, what);
         }
-        let kept = |(k, w): (usize, &u64)| if mine[0] == 2 { *w == filled(k) } else { *w == 0 };
-        if !ws.iter().enumerate().all(kept) {
-            self.fail(kind, j, format!("{:?}: the workspace", ALL[i]));
-        }
-        self.ws = ws;
         self.note(ALL[i], mine);
         mine
     }
@@ -271,6 +246,8 @@ fn settled_report() -> u64 {
     bad
 }
 
+const FIXED_SEED: u64 = 2026;
+
 fn all() -> u64 {
     let words: Vec<String> = std::env::args().collect();
     let count = words.get(1).map_or(20_000, |w| w.parse().expect("a number of jobs"));
@@ -280,7 +257,7 @@ fn all() -> u64 {
     }
     let fresh = std::time::SystemTime::now().duration_since(std::time::UNIX_EPOCH).unwrap().as_nanos() as u64;
     println!("fresh seed {fresh}");
-    bad + round(count, 2026) + round(count, fresh)
+    bad + round(count, FIXED_SEED) + round(count, fresh)
 }
 
 fn main() {
