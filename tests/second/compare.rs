@@ -1,5 +1,8 @@
 //! Compares the proved machines, through the static library of crate `capi`, and the report program, as a process, with the second
-//! implementation. compare [jobs [seed]]: so many jobs from the fixed seed and from a fresh one, or from the seed given.
+//! implementation. compare [jobs [seed]]: so many jobs from the fixed seed and from a fresh one, and the small jobs of forms; or so many
+//! from the seed given. compare forms: the small jobs alone, from the fixed seed.
+mod boundaries;
+mod forms;
 mod inputs;
 mod jobs;
 mod library;
@@ -8,6 +11,7 @@ mod proved;
 mod report;
 mod second;
 mod settled;
+mod small;
 
 use jobs::{Dice, Input};
 use program::{Reports, Tally};
@@ -247,9 +251,18 @@ fn settled_report() -> u64 {
 }
 
 const FIXED_SEED: u64 = 2026;
+/// Random jobs of forms from one seed.
+const SMALL_JOBS: u64 = 1_000;
+
+fn small_jobs() -> u64 {
+    boundaries::every_form(FIXED_SEED) + boundaries::random(SMALL_JOBS, FIXED_SEED)
+}
 
 fn all() -> u64 {
     let words: Vec<String> = std::env::args().collect();
+    if words.get(1).is_some_and(|w| w == "forms") {
+        return small_jobs();
+    }
     let count = words.get(1).map_or(20_000, |w| w.parse().expect("a number of jobs"));
     let bad = settled_runs() + settled_report();
     if let Some(seed) = words.get(2) {
@@ -257,7 +270,7 @@ fn all() -> u64 {
     }
     let fresh = std::time::SystemTime::now().duration_since(std::time::UNIX_EPOCH).unwrap().as_nanos() as u64;
     println!("fresh seed {fresh}");
-    bad + round(count, FIXED_SEED) + round(count, fresh)
+    bad + small_jobs() + boundaries::random(SMALL_JOBS, fresh) + round(count, FIXED_SEED) + round(count, fresh)
 }
 
 fn main() {
