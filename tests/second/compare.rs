@@ -1,38 +1,32 @@
 //! Compares the proved machines, through the static library of crate `capi`, and the report program, as a process, with the second
-//! implementation. compare [jobs [seed]]: so many jobs from the fixed seed and from a fresh one, or from the seed given.
+//! implementation. compare [jobs [seed]]: so many jobs from the fixed seed and from a fresh one, and the small jobs of forms; or so many
+//! from the seed given. compare forms: the small jobs alone, from the fixed seed.
+mod boundaries;
+mod forms;
 mod inputs;
 mod jobs;
 mod library;
 mod program;
+mod proved;
 mod report;
 mod second;
 mod settled;
+mod small;
 
 use jobs::{Dice, Input};
-use library::mondupil_run;
 use program::{Reports, Tally};
-use second::Machine::{self, *};
+use proved::{proved, Lent};
+use second::{Machine, ALL};
 use std::collections::{BTreeMap, BTreeSet};
-
-fn proved(m: u32, j: &Input, ws: &mut [u64], answer: &mut [u64]) -> u32 {
-    unsafe {
-        mondupil_run(
-            m, j.table.as_ptr(), j.table.len(), j.args.as_ptr(), j.args.len(), j.fuel, j.period, j.tau,
-            ws.as_mut_ptr(), ws.len(), answer.as_mut_ptr(), answer.len(),
-        )
-    }
-}
 
 fn by_second(m: Machine, j: &Input) -> [u64; 8] {
     second::run(m, &j.table, &j.args, j.fuel, j.period, j.tau, j.workspace).words()
 }
 
-const ALL: [Machine; 3] = [Sequential, Parallel, Heartbeat];
-
 /// What was compared, and what it was like.
 #[derive(Default)]
 struct Bench {
-    ws: Vec<u64>,
+    lent: Lent,
     jobs: u64,
     bad: u64,
     kinds: BTreeMap<&'static str, u64>,
@@ -65,26 +59,11 @@ impl Bench {
         *self.answers.entry(what).or_default() += 1;
     }
 
-    /// One machine, on a workspace full of garbage, with room for more than an answer.
     fn machine(&mut self, dice: &mut Dice, kind: &str, i: usize, j: &Input) -> [u64; 8] {
         let mine = by_second(ALL[i], j);
-        let garbage = dice.next();
-        let filled = |k: usize| garbage.wrapping_mul(2 * k as u64 + 1) | 1;
-        let mut ws = std::mem::take(&mut self.ws);
-        ws.clear();
-        ws.extend((0..j.workspace).map(filled));
-        let room = 8 + dice.below(3) as usize;
-        let mut answer: Vec<u64> = (0..room).map(|_| dice.next()).collect();
-        let before = answer.clone();
-        let r = proved(i as u32, j, &mut ws, &mut answer);
-        if r != 0 || answer[..8] != mine || answer[8..] != before[8..] {
-            self.fail(kind, j, format!("{:?}: proved {r} {answer:?}, second {mine:?}", ALL[i]));
+        for what in self.lent.differences(dice, i, j, mine) {
+            self.fail(kind, j, what);
         }
-        let kept = |(k, w): (usize, &u64)| if mine[0] == 2 { *w == filled(k) } else { *w == 0 };
-        if !ws.iter().enumerate().all(kept) {
-            self.fail(kind, j, format!("{:?}: the workspace", ALL[i]));
-        }
-        self.ws = ws;
         self.note(ALL[i], mine);
         mine
     }
@@ -271,8 +250,19 @@ fn settled_report() -> u64 {
     bad
 }
 
+const FIXED_SEED: u64 = 2026;
+/// Random jobs of forms from one seed.
+const SMALL_JOBS: u64 = 1_000;
+
+fn small_jobs() -> u64 {
+    boundaries::every_form(FIXED_SEED) + boundaries::random(SMALL_JOBS, FIXED_SEED)
+}
+
 fn all() -> u64 {
     let words: Vec<String> = std::env::args().collect();
+    if words.get(1).is_some_and(|w| w == "forms") {
+        return small_jobs();
+    }
     let count = words.get(1).map_or(20_000, |w| w.parse().expect("a number of jobs"));
     let bad = settled_runs() + settled_report();
     if let Some(seed) = words.get(2) {
@@ -280,7 +270,7 @@ fn all() -> u64 {
     }
     let fresh = std::time::SystemTime::now().duration_since(std::time::UNIX_EPOCH).unwrap().as_nanos() as u64;
     println!("fresh seed {fresh}");
-    bad + round(count, 2026) + round(count, fresh)
+    bad + small_jobs() + boundaries::random(SMALL_JOBS, fresh) + round(count, FIXED_SEED) + round(count, fresh)
 }
 
 fn main() {

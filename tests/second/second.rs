@@ -251,6 +251,26 @@ pub struct Stop {
     pub node: usize,
 }
 
+/// Of a heartbeat machine: N less its credits, and whether its stack has a fork that could be promoted.
+#[derive(Debug, Clone, Copy)]
+pub struct Beat {
+    pub left: i64,
+    pub promotable: bool,
+}
+
+/// What a run has left before a transition: fuel and frames; and its beat, in the heartbeat.
+#[derive(Debug, Clone, Copy)]
+pub struct Room {
+    pub fuel: u64,
+    pub frames: usize,
+    pub beat: Option<Beat>,
+}
+
+/// Is shown each node before it is evaluated, and each arithmetic before its left operand returns to it.
+pub trait Watch {
+    fn see(&mut self, at: &Node, left: Option<u64>, locals: &[u64], room: Room);
+}
+
 /// What all machines of one run share.
 struct World<'j> {
     job: &'j Job,
@@ -259,13 +279,15 @@ struct World<'j> {
     frames: usize,
     occupied: usize,
     period: u64,
+    beat: Option<Beat>,
+    watch: Option<&'j mut (dyn Watch + 'j)>,
 }
 
 fn stop<T>(number: u64, at: &Node) -> Result<T, Stop> {
     Err(Stop { number, function: at.function, node: at.at })
 }
 
-fn arithmetic(op: u32, x: u64, y: u64, at: &Node) -> Result<u64, Stop> {
+pub fn arithmetic(op: u32, x: u64, y: u64, at: &Node) -> Result<u64, Stop> {
     let (wx, wy) = (x as u128, y as u128);
     match op {
         0 | 2 => {
@@ -297,7 +319,18 @@ enum State<'j> {
 }
 use State::{Evaluate, Return};
 
+/// The oldest fork of a stack that is not promoted.
+fn oldest(stack: &[Frame]) -> Option<usize> {
+    stack.iter().position(|f| matches!(f, Frame::BothLeft(..)))
+}
+
 impl<'j> World<'j> {
+    fn show(&mut self, at: &Node, left: Option<u64>, locals: &Locals) {
+        if let Some(watch) = &mut self.watch {
+            let (fuel, frames) = (self.fuel.saturating_sub(self.made), self.frames.saturating_sub(self.occupied));
+            watch.see(at, left, locals, Room { fuel, frames, beat: self.beat });
+        }
+    }
     fn need_fuel(&self, at: &Node) -> Result<(), Stop> {
         if self.made >= self.fuel { stop(20, at) } else { Ok(()) }
     }
@@ -325,6 +358,7 @@ impl<'j> World<'j> {
     }
     fn value(&mut self, mut node: &'j Node, mut locals: Locals, g: &mut Graph) -> Result<u64, Stop> {
         loop {
+            self.show(node, None, &locals);
             match &node.kind {
                 Kind::Constant(v) => {
                     self.tick(node, g)?;
@@ -337,6 +371,7 @@ impl<'j> World<'j> {
                 Kind::Arithmetic(op, l, r) => {
                     self.tick_open(node, g)?;
                     let x = self.value(l, locals.clone(), g)?;
+                    self.show(node, Some(x), &locals);
                     self.tick(node, g)?;
                     let y = self.value(r, locals, g)?;
                     self.need_fuel(node)?;
@@ -401,6 +436,7 @@ impl<'j> World<'j> {
     }
 
     fn evaluated(&mut self, node: &'j Node, locals: Locals, stack: &mut Vec<Frame<'j>>) -> Result<State<'j>, Stop> {
+        self.show(node, None, &locals);
         self.need_fuel(node)?;
         Ok(match &node.kind {
             Kind::Constant(v) => Return(*v),
@@ -429,6 +465,9 @@ impl<'j> World<'j> {
             Frame::Left(n, _) | Frame::Right(n, _) | Frame::Choose(n, _) | Frame::Let(n, _)
             | Frame::Call(n, _, _) | Frame::BothLeft(n, _) | Frame::BothRight(n, _, _) => *n,
         };
+        if let Frame::Left(_, locals) = &frame {
+            self.show(at, Some(v), locals);
+        }
         self.need_fuel(at)?;
         Ok(match (frame, &at.kind) {
             (Frame::Left(_, locals), Kind::Arithmetic(_, _, r)) => {
@@ -508,7 +547,7 @@ impl<'j> World<'j> {
                 return Ok((*v, graph));
             }
             if credits >= self.period {
-                if let Some(i) = stack.iter().position(|f| matches!(f, Frame::BothLeft(..))) {
+                if let Some(i) = oldest(&stack) {
                     let newer = stack.split_off(i + 1);
                     let Some(Frame::BothLeft(fork, locals)) = stack.pop() else { unreachable!() };
                     let Kind::Both(_, right, body) = &fork.kind else { unreachable!() };
@@ -521,6 +560,9 @@ impl<'j> World<'j> {
                     continue;
                 }
             }
+            if self.watch.is_some() {
+                self.beat = Some(Beat { left: self.period as i64 - credits as i64, promotable: oldest(&stack).is_some() });
+            }
             state = self.transition(state, &mut stack)?;
             graph.step();
             credits += 1;
@@ -530,12 +572,14 @@ impl<'j> World<'j> {
 
 // ------------------------------------------------------------- whole runs
 
-#[derive(Debug, Clone, Copy, PartialEq, Eq)]
+#[derive(Debug, Clone, Copy, PartialEq, Eq, PartialOrd, Ord, Hash)]
 pub enum Machine {
     Sequential,
     Parallel,
     Heartbeat,
 }
+
+pub const ALL: [Machine; 3] = [Machine::Sequential, Machine::Parallel, Machine::Heartbeat];
 
 #[derive(Debug, Clone, Copy, PartialEq, Eq)]
 pub enum Answer {
@@ -575,13 +619,26 @@ fn check(job: &Job, args: &[u64], fuel: u64, period: u64, tau: u64, workspace: u
     Ok(())
 }
 
+/// What a run of an accepted job is given.
+#[derive(Debug, Clone, Copy)]
+pub struct Limits {
+    pub fuel: u64,
+    pub period: u64,
+    pub tau: u64,
+    pub frames: usize,
+}
+
 pub fn run(m: Machine, table: &[u32], args: &[u64], fuel: u64, period: u64, tau: u64, workspace: usize) -> Answer {
     let accepted = read(table).and_then(|job| check(&job, args, fuel, period, tau, workspace).map(|()| job));
-    let job = match accepted {
-        Ok(job) => job,
-        Err(r) => return Answer::Refused { number: r.number, function: r.function, node: r.node },
-    };
-    let mut world = World { job: &job, fuel, made: 0, frames: workspace / 32, occupied: 0, period };
+    match accepted {
+        Ok(job) => run_accepted(m, &job, args, Limits { fuel, period, tau, frames: workspace / 32 }, None),
+        Err(r) => Answer::Refused { number: r.number, function: r.function, node: r.node },
+    }
+}
+
+pub fn run_accepted<'j>(m: Machine, job: &'j Job, args: &[u64], limits: Limits, watch: Option<&'j mut (dyn Watch + 'j)>) -> Answer {
+    let Limits { fuel, period, tau, frames } = limits;
+    let mut world = World { job, fuel, made: 0, frames, occupied: 0, period, beat: None, watch };
     let entry = &job.bodies[0];
     let locals: Locals = Rc::new(args.to_vec());
     let ended = match m {
