@@ -289,12 +289,17 @@ impl<const BIRTH: bool, const BEAT: bool, const FUSED: bool> Run<'_, BIRTH, BEAT
         }
     }
 
+    #[cold]
+    fn value(&self, v: u64) -> Ending {
+        Ending::Value(v, self.made, self.forks, self.span())
+    }
+
     /// One step of a value that returns to the frame on top. The fields of the frame are read where they are needed.
     #[inline(always)]
     fn resume(&mut self, v: u64) -> Next {
         self.promote();
         if self.depth == 0 {
-            return Err(Ending::Value(v, self.made, self.forks, self.span()));
+            return Err(self.value(v));
         }
         let top = self.depth - 1;
         let f = &self.frames[top];

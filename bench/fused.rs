@@ -69,11 +69,9 @@ impl Operands<'_> {
 
     #[inline(always)]
     fn flat(&self, at: usize) -> Option<u64> {
-        let node = &self.nodes[at];
-        match node.tag {
-            Tag::Pair => self.pair(at),
+        match self.nodes[at].tag {
             Tag::Spine => spine(self.nodes, self.locals, self.base, at),
-            _ => Some(self.leaf(node)),
+            _ => self.leaf_or_pair(at),
         }
     }
 }
