@@ -120,12 +120,13 @@ fn schedules(group: &[Measured]) {
 /// The heartbeat machine where N is small and forks are many.
 fn small_periods(group: &[Measured]) {
     println!("\n### Small N with many forks\n");
-    println!("| job | forks | transitions for each fork | heartbeat against sequential, per transition | per transition or fork | whole run |");
-    println!("|---|--:|--:|--:|--:|--:|");
+    println!("| job | forks | transitions for each fork | heartbeat against sequential, per transition | per transition or fork | whole run | proved / fast | proved / fused |");
+    println!("|---|--:|--:|--:|--:|--:|--:|--:|");
     for m in group {
         let [transition, or_fork] = m.per_transition(2);
         let (forks, each) = (m.forks(2), m.transitions(2) as f64 / m.forks(2) as f64);
-        println!("| {} | {forks} | {each:.1} | {transition:.2} | {or_fork:.2} | {:.2} |", m.job.name, m.whole(2));
+        let [over_fast, over_fused] = [FAST, FUSED].map(|side| m.ratio(2, side));
+        println!("| {} | {forks} | {each:.1} | {transition:.2} | {or_fork:.2} | {:.2} | {over_fast:.2} | {over_fused:.2} |", m.job.name, m.whole(2));
     }
 }
 
