@@ -1,6 +1,6 @@
 //! Measures the proved machines, through the static library of crate `capi`, against two Rust interpreters, side by side in one run:
 //! `fast` makes one transition at a time, `fused` several at once where they are certain. What is printed is markdown.
-//! Before any time is taken all must give the same answers; the program fails if they differ.
+//! Before a job is timed all must give the same answers on it, and on random jobs before the first; the program fails if they differ.
 mod decode;
 mod fast;
 mod fused;
