@@ -1,119 +1,14 @@
-//! Measures the proved machines, through the static library of crate `capi`, against the interpreter of `fast`, side by side in one run.
-//! Before any time is taken both must give the same answers; the program fails if they differ.
+//! Measures the proved machines, through the static library of crate `capi`, against two Rust interpreters, side by side in one run:
+//! `fast` makes one transition at a time, `fused` several at once where they are certain. What is printed is markdown.
+//! Before a job is timed all must give the same answers on it, and on random jobs before the first; the program fails if they differ.
+mod decode;
 mod fast;
+mod fused;
 mod jobs;
-#[path = "../tests/second/library.rs"]
-mod library;
-#[allow(dead_code)]
-#[path = "../tests/second/jobs.rs"]
-mod random;
+mod sides;
 
-use fast::Interpreter;
 use jobs::Job;
-use library::mondupil_run;
-
-extern "C" {
-    fn clock_gettime(clock: i32, time: *mut [i64; 2]) -> i32;
-}
-
-/// Seconds of processor time of this thread: other work on the machine counts less than in seconds of the wall clock.
-fn now() -> f64 {
-    let mut time = [0i64; 2];
-    unsafe { clock_gettime(3, &mut time) };
-    time[0] as f64 + time[1] as f64 * 1e-9
-}
-
-const MACHINES: [&str; 3] = ["sequential", "parallel", "heartbeat"];
-const WORDS: usize = 32 * 4096;
-
-/// Both implementations, with what they run in.
-struct Pair {
-    workspace: Vec<u64>,
-    fast: Interpreter,
-}
-
-impl Pair {
-    fn proved(&mut self, machine: u32, j: &Job, fuel: u64, words: usize) -> [u64; 8] {
-        let mut answer = [0u64; 8];
-        let served = unsafe {
-            mondupil_run(
-                machine, j.table.as_ptr(), j.table.len(), j.args.as_ptr(), j.args.len(), fuel, j.period, j.tau,
-                self.workspace.as_mut_ptr(), words, answer.as_mut_ptr(), 8,
-            )
-        };
-        assert_eq!(served, 0);
-        answer
-    }
-
-    fn rust(&mut self, machine: u32, j: &Job, fuel: u64, words: usize) -> [u64; 8] {
-        self.fast.run(machine, &j.table, &j.args, fuel, j.period, j.tau, words)
-    }
-
-    /// The time of one run of each, one after the other, from so many calls.
-    fn time(&mut self, machine: u32, j: &Job, fuel: u64, calls: u32) -> [f64; 2] {
-        let start = now();
-        for _ in 0..calls {
-            std::hint::black_box(self.proved(machine, j, fuel, WORDS));
-        }
-        let between = now();
-        for _ in 0..calls {
-            std::hint::black_box(self.rust(machine, j, fuel, WORDS));
-        }
-        let end = now();
-        [(between - start) / calls as f64, (end - between) / calls as f64]
-    }
-
-    fn agree(&mut self, machine: u32, j: &Job, fuel: u64, words: usize) -> [u64; 8] {
-        let (one, two) = (self.proved(machine, j, fuel, words), self.rust(machine, j, fuel, words));
-        if one != two {
-            println!("DISAGREE {} {}, fuel {fuel}, {words} words: proved {one:?}, Rust {two:?}", j.name, MACHINES[machine as usize]);
-            std::process::exit(1);
-        }
-        one
-    }
-}
-
-/// Random jobs of every kind of the comparison with the second implementation.
-fn agree_on_random(pair: &mut Pair, count: u64) {
-    let mut dice = random::Dice(2026);
-    for _ in 0..count {
-        let r = match dice.below(11) {
-            0 | 1 => random::mutated(&mut dice),
-            2 => random::deep(&mut dice),
-            3 => random::raw(&mut dice),
-            4 => random::settings_out(&mut dice),
-            5 => random::edges(&mut dice),
-            6 => random::cut(&mut dice),
-            _ => random::well_formed(&mut dice),
-        };
-        let j = Job { name: "random", table: r.table, args: r.args, fuel: r.fuel, period: r.period, tau: r.tau };
-        if pair.workspace.len() < r.workspace {
-            pair.workspace.resize(r.workspace, 0);
-        }
-        for machine in 0..3 {
-            pair.agree(machine, &j, j.fuel, r.workspace);
-        }
-    }
-}
-
-/// The job's answers, which must be values; and stops, by fuel and frames that are short.
-fn agree_on_job(pair: &mut Pair, j: &Job) -> [[u64; 8]; 3] {
-    [0, 1, 2].map(|machine| {
-        for fuel in [1, 999, 54_321, 3_000_000] {
-            pair.agree(machine, j, fuel, WORDS);
-        }
-        pair.agree(machine, j, j.fuel, 32 * 5);
-        let answer = pair.agree(machine, j, j.fuel, WORDS);
-        if answer[0] != 0 {
-            println!("{} has no value: {answer:?}", j.name);
-            std::process::exit(1);
-        }
-        answer
-    })
-}
-
-/// What one repeat took: of each machine, by the proved code and by the Rust interpreter.
-type Taken = [[f64; 2]; 3];
+use sides::{Answer, Sides, FAST, FUSED, MACHINES, PROVED, SIDES, WORDS};
 
 fn median(values: impl Iterator<Item = f64>) -> f64 {
     let mut sorted: Vec<f64> = values.collect();
@@ -121,86 +16,209 @@ fn median(values: impl Iterator<Item = f64>) -> f64 {
     sorted[sorted.len() / 2]
 }
 
-/// Million transitions a second, at the best of the repeats.
-fn rate(count: u64, seconds: impl Iterator<Item = f64>) -> f64 {
-    count as f64 / seconds.fold(f64::MAX, f64::min) / 1e6
+fn geometric_mean(values: &[f64]) -> f64 {
+    (values.iter().map(|x| x.ln()).sum::<f64>() / values.len() as f64).exp()
 }
 
-/// The table of rates, and the answers and times of each job.
-fn rates(pair: &mut Pair, all: &[Job], repeats: u32) -> Vec<([[u64; 8]; 3], Vec<Taken>)> {
-    println!("| job | machine | transitions | forks | proved, million transitions/s | Rust, million transitions/s | proved / Rust |");
-    println!("|---|---|--:|--:|--:|--:|--:|");
-    let mut measured = vec![];
-    let mut ratios: [Vec<f64>; 3] = Default::default();
-    for j in all {
-        let answers = agree_on_job(pair, j);
-        let taken: Vec<Taken> = (0..repeats).map(|_| [0, 1, 2].map(|machine| pair.time(machine, j, j.fuel, 1))).collect();
-        for machine in 0..3 {
-            let made = answers[machine][4];
-            let [proved, rust] = [0, 1].map(|side| rate(made, taken.iter().map(|t| t[machine][side])));
-            let ratio = median(taken.iter().map(|t| t[machine][1] / t[machine][0]));
-            ratios[machine].push(ratio);
-            println!("| {} | {} | {made} | {} | {proved:.1} | {rust:.1} | {ratio:.2} |", j.name, MACHINES[machine], answers[machine][5]);
-        }
-        measured.push((answers, taken));
+fn lowest(values: &[f64]) -> f64 {
+    values.iter().fold(f64::MAX, |a, &b| a.min(b))
+}
+
+fn highest(values: &[f64]) -> f64 {
+    values.iter().fold(f64::MIN, |a, &b| a.max(b))
+}
+
+/// A job with its answers, and what each repeat took: of each machine, by each side.
+struct Measured {
+    job: Job,
+    answers: [Answer; 3],
+    taken: Vec<[[f64; 3]; 3]>,
+}
+
+impl Measured {
+    fn new(sides: &mut Sides, job: Job, repeats: u32) -> Self {
+        let answers = sides.values(&job);
+        let taken = (0..repeats).map(|_| [0, 1, 2].map(|machine| sides.time(machine, &job, job.fuel, 1))).collect();
+        Measured { job, answers, taken }
     }
-    let mean = |r: &[f64]| (r.iter().map(|x| x.ln()).sum::<f64>() / r.len() as f64).exp();
-    println!("\nproved / Rust: above 1 the proved code is faster. Geometric mean {:.2}, lowest {:.2};", mean(&ratios.concat()), ratios.concat().iter().fold(f64::MAX, |a, &b| a.min(b)));
-    println!("by machine {:.2}, {:.2}, {:.2}.", mean(&ratios[0]), mean(&ratios[1]), mean(&ratios[2]));
-    measured
+
+    fn transitions(&self, machine: usize) -> u64 {
+        self.answers[machine][4]
+    }
+
+    fn forks(&self, machine: usize) -> u64 {
+        self.answers[machine][5]
+    }
+
+    /// Million transitions a second, at the best of the repeats.
+    fn rate(&self, machine: usize, side: usize) -> f64 {
+        let best = self.taken.iter().map(|t| t[machine][side]).fold(f64::MAX, f64::min);
+        self.transitions(machine) as f64 / best / 1e6
+    }
+
+    /// Speed of the proved side against another: the median of neighbouring runs.
+    fn ratio(&self, machine: usize, side: usize) -> f64 {
+        median(self.taken.iter().map(|t| t[machine][side] / t[machine][PROVED]))
+    }
+
+    /// Time of a proved machine's whole run against the sequential one's.
+    fn whole(&self, machine: usize) -> f64 {
+        median(self.taken.iter().map(|t| t[machine][PROVED] / t[0][PROVED]))
+    }
+
+    /// The same for each transition, and for each transition or fork.
+    fn per_transition(&self, machine: usize) -> [f64; 2] {
+        let made = self.transitions(machine);
+        [made, made + self.forks(machine)].map(|count| self.whole(machine) * self.transitions(0) as f64 / count as f64)
+    }
 }
 
-/// Time of the parallel and the heartbeat machine against the sequential one.
-fn schedules(all: &[Job], measured: &[([[u64; 8]; 3], Vec<Taken>)]) {
-    println!("\nProved code: time against the sequential machine, per transition (a fork, a change of branch and a join take none), per transition or fork, and of the whole run.\n");
+/// The ratios of a group of jobs against one side, of one machine or of all.
+fn ratios(group: &[Measured], side: usize, machines: &[usize]) -> Vec<f64> {
+    group.iter().flat_map(|m| machines.iter().map(move |&machine| m.ratio(machine, side))).collect()
+}
+
+const ALL: [usize; 3] = [0, 1, 2];
+
+/// The rates and ratios of a group of jobs.
+fn rates(title: &str, group: &[Measured]) {
+    println!("\n### {title}\n");
+    println!("| job | machine | transitions | forks | fast | proved | fused | proved / fast | proved / fused |");
+    println!("|---|---|--:|--:|--:|--:|--:|--:|--:|");
+    for m in group {
+        for machine in ALL {
+            let [fast, proved, fused] = [FAST, PROVED, FUSED].map(|side| m.rate(machine, side));
+            let [over_fast, over_fused] = [FAST, FUSED].map(|side| m.ratio(machine, side));
+            let (name, transitions, forks) = (m.job.name, m.transitions(machine), m.forks(machine));
+            println!("| {name} | {} | {transitions} | {forks} | {fast:.1} | {proved:.1} | {fused:.1} | {over_fast:.2} | {over_fused:.2} |", MACHINES[machine]);
+        }
+    }
+    println!("\n| {} | all | sequential | parallel | heartbeat |", title.to_lowercase());
+    println!("|---|--:|--:|--:|--:|");
+    for side in [FAST, FUSED] {
+        for (what, of) in [("geometric mean", geometric_mean as fn(&[f64]) -> f64), ("slowest", lowest)] {
+            let shown = [&ALL[..], &[0], &[1], &[2]].map(|machines| format!("{:.2}", of(&ratios(group, side, machines))));
+            println!("| proved / {}, {what} | {} |", SIDES[side], shown.join(" | "));
+        }
+    }
+}
+
+/// Time of the proved parallel and heartbeat machines against the sequential one.
+fn schedules(group: &[Measured]) {
+    println!("\n### Parallel and heartbeat against sequential\n");
     println!("| job | parallel, per transition | per transition or fork | whole run | heartbeat, per transition | per transition or fork | whole run |");
     println!("|---|--:|--:|--:|--:|--:|--:|");
-    for (j, (answers, taken)) in all.iter().zip(measured) {
-        print!("| {}", j.name);
-        for machine in [1, 2] {
-            let [made, forks] = [answers[machine][4], answers[machine][5]];
-            let whole = median(taken.iter().map(|t| t[machine][0] / t[0][0]));
-            let per = |count: u64| whole * answers[0][4] as f64 / count as f64;
-            print!(" | {:.2} | {:.2} | {whole:.2}", per(made), per(made + forks));
-        }
-        println!(" |");
+    for m in group {
+        let shown = [1, 2].map(|machine| {
+            let [transition, or_fork] = m.per_transition(machine);
+            format!("{transition:.2} | {or_fork:.2} | {:.2}", m.whole(machine))
+        });
+        println!("| {} | {} |", m.job.name, shown.join(" | "));
     }
 }
 
-/// Two inputs that differ in one thing: time per transition of the second against the first. `calls` makes both take about as long.
-fn compare(pair: &mut Pair, what: &str, jobs: [&Job; 2], fuels: [u64; 2], calls: [u32; 2], repeats: u32) {
-    let shown = [0, 1, 2].map(|machine| {
-        let made = [0, 1].map(|i| pair.agree(machine, jobs[i], fuels[i], WORDS)[4] as f64);
-        let taken: Vec<[[f64; 2]; 2]> = (0..repeats).map(|_| [0, 1].map(|i| pair.time(machine, jobs[i], fuels[i], calls[i]))).collect();
-        [0, 1].map(|side| median(taken.iter().map(|t| (t[1][side] / made[1]) / (t[0][side] / made[0]))))
-    });
-    for (side, name) in ["proved", "Rust"].iter().enumerate() {
-        println!("| {what} | {name} | {:.3} | {:.3} | {:.3} |", shown[0][side], shown[1][side], shown[2][side]);
+/// The heartbeat machine where N is small and forks are many.
+fn small_periods(group: &[Measured]) {
+    println!("\n### Small N with many forks\n");
+    println!("| job | forks | transitions for each fork | heartbeat against sequential, per transition | per transition or fork | whole run | proved / fast | proved / fused |");
+    println!("|---|--:|--:|--:|--:|--:|--:|--:|");
+    for m in group {
+        let [transition, or_fork] = m.per_transition(2);
+        let (forks, each) = (m.forks(2), m.transitions(2) as f64 / m.forks(2) as f64);
+        let [over_fast, over_fused] = [FAST, FUSED].map(|side| m.ratio(2, side));
+        println!("| {} | {forks} | {each:.1} | {transition:.2} | {or_fork:.2} | {:.2} | {over_fast:.2} | {over_fused:.2} |", m.job.name, m.whole(2));
     }
+}
+
+/// Two inputs that differ in one thing, and how often each is called, so that both take about as long.
+struct Contrast<'j> {
+    name: &'static str,
+    jobs: [&'j Job; 2],
+    fuels: [u64; 2],
+    calls: [u32; 2],
+}
+
+/// Time for each transition of the second against the first; the highest of the proved machines.
+fn contrast(sides: &mut Sides, c: &Contrast, repeats: u32) -> f64 {
+    let found = [0, 1, 2].map(|machine| {
+        let made = [0, 1].map(|i| sides.agree(machine, c.jobs[i], c.fuels[i], WORDS)[4] as f64);
+        let taken: Vec<[[f64; 3]; 2]> = (0..repeats).map(|_| [0, 1].map(|i| sides.time(machine, c.jobs[i], c.fuels[i], c.calls[i]))).collect();
+        [FAST, PROVED, FUSED].map(|side| median(taken.iter().map(|t| (t[1][side] / made[1]) / (t[0][side] / made[0]))))
+    });
+    for (side, name) in SIDES.iter().enumerate() {
+        let shown = found.map(|of_machine| format!("{:.3}", of_machine[side]));
+        println!("| {} | {name} | {} |", c.name, shown.join(" | "));
+    }
+    highest(&found.map(|of_machine| of_machine[PROVED]))
+}
+
+/// Depth and length of a run: the highest figure of the proved machines for each.
+fn depth_and_length(sides: &mut Sides, quick: bool, repeats: u32) -> [f64; 2] {
+    println!("\n### Depth and length\n\n| second against first | | sequential | parallel | heartbeat |\n|---|---|--:|--:|--:|");
+    let [shallow, deep] = [10, 4_000].map(|depth| jobs::deep_plain(depth, 800_000));
+    let depth = Contrast { name: "depth 10, depth 4,000", jobs: [&shallow, &deep], fuels: [shallow.fuel, deep.fuel], calls: [1, 1] };
+    let endless = jobs::fibonacci(60);
+    let length = Contrast { name: "10^6, 10^8 transitions", jobs: [&endless, &endless], fuels: [1_000_000, 100_000_000], calls: [100, 1] };
+    [contrast(sides, &depth, repeats), contrast(sides, &length, if quick { 1 } else { 5 })]
 }
 
 /// The largest table, refused by its fuel 0 after it was read.
-fn acceptance(pair: &mut Pair) {
+fn acceptance(sides: &mut Sides) {
     let j = Job { name: "largest table", table: jobs::largest_table(), args: vec![], fuel: 0, period: 1, tau: 1 };
     assert_eq!((j.table[0], j.table.len()), (64, 1 + 2 * 64 + 4 * 4_000));
-    assert_eq!(pair.agree(0, &j, 0, WORDS), [2, 8, 0, 0, 0, 0, 0, 0]);
-    let taken: Vec<[f64; 2]> = (0..100).map(|_| pair.time(0, &j, 0, 200)).collect();
-    let [proved, rust] = [0, 1].map(|side| taken.iter().map(|t| t[side]).fold(f64::MAX, f64::min) * 1e6);
-    println!("\nTo accept the largest table (64 functions, 4,000 nodes), best of {}: proved {proved:.1} µs, Rust {rust:.1} µs, proved / Rust in speed {:.2}.", taken.len(), rust / proved);
+    assert_eq!(sides.agree(0, &j, 0, WORDS), [2, 8, 0, 0, 0, 0, 0, 0]);
+    let taken: Vec<[f64; 3]> = (0..100).map(|_| sides.time(0, &j, 0, 200)).collect();
+    let [fast, proved, _] = [FAST, PROVED, FUSED].map(|side| taken.iter().map(|t| t[side]).fold(f64::MAX, f64::min) * 1e6);
+    println!("\nTo accept the largest table (64 functions, 4,000 nodes), best of {}: proved {proved:.1} µs, Rust {fast:.1} µs (both interpreters have the same reader); in speed proved / Rust {:.2}.", taken.len(), fast / proved);
+}
+
+/// What is wanted: a figure that is reached, at least or at most another.
+enum Wanted {
+    AtLeast(f64),
+    AtMost(f64),
+}
+
+fn wanted(rows: &[(&str, f64, Wanted)]) {
+    println!("\n### Wanted, and what is reached\n\n| | wanted | reached | |\n|---|--:|--:|---|");
+    for (what, reached, wanted) in rows {
+        let (bound, met) = match wanted {
+            Wanted::AtLeast(least) => (format!("at least {least}"), reached >= least),
+            Wanted::AtMost(most) => (format!("at most {most}"), reached <= most),
+        };
+        println!("| {what} | {bound} | {reached:.2} | {} |", if met { "met" } else { "**not met**" });
+    }
 }
 
 fn main() {
     let quick = std::env::args().any(|word| word == "quick");
     let repeats = if quick { 3 } else { 15 };
-    let mut pair = Pair { workspace: vec![0; WORDS], fast: Interpreter::new() };
-    agree_on_random(&mut pair, 5_000);
-    let all = jobs::all();
-    let measured = rates(&mut pair, &all, repeats);
-    schedules(&all, &measured);
-    println!("\nTime per transition of the second against the first.\n\n| | | sequential | parallel | heartbeat |\n|---|---|--:|--:|--:|");
-    let [shallow, deep] = [10, 4_000].map(|depth| jobs::deep_plain(depth, 800_000));
-    compare(&mut pair, "depth 10, depth 4,000", [&shallow, &deep], [shallow.fuel, deep.fuel], [1, 1], repeats);
-    let endless = jobs::fibonacci(60);
-    compare(&mut pair, "10^6, 10^8 transitions", [&endless, &endless], [1_000_000, 100_000_000], [100, 1], if quick { 1 } else { 5 });
-    acceptance(&mut pair);
+    let mut sides = Sides::new();
+    sides.agree_on_random(20_000);
+    sides.agree_on_periods();
+    let [six, further] = [jobs::six(), jobs::further()].map(|group| {
+        let measured = group.into_iter().map(|job| {
+            sides.agree_on_stops(&job);
+            Measured::new(&mut sides, job, repeats)
+        });
+        measured.collect::<Vec<_>>()
+    });
+    rates("The six jobs", &six);
+    rates("The ten further jobs", &further);
+    schedules(&six);
+    small_periods(&further[further.len() - jobs::small_periods().len()..]);
+    let [depth, length] = depth_and_length(&mut sides, quick, repeats);
+    acceptance(&mut sides);
+    let six_fast = ratios(&six, FAST, &ALL);
+    let against = |machine: usize| highest(&six.iter().map(|m| m.per_transition(machine)[0]).collect::<Vec<_>>());
+    use Wanted::*;
+    wanted(&[
+        ("the six, proved / fast, slowest", lowest(&six_fast), AtLeast(1.3)),
+        ("the six, proved / fast, geometric mean", geometric_mean(&six_fast), AtLeast(1.7)),
+        ("the six, proved / fused, geometric mean", geometric_mean(&ratios(&six, FUSED, &ALL)), AtLeast(0.8)),
+        ("the ten further, proved / fast, geometric mean", geometric_mean(&ratios(&further, FAST, &ALL)), AtLeast(1.2)),
+        ("the six, parallel against sequential per transition, highest", against(1), AtMost(1.25)),
+        ("the six, heartbeat against sequential per transition, highest", against(2), AtMost(1.25)),
+        ("depth 4,000 against depth 10 per transition, highest", depth, AtMost(1.1)),
+        ("10^8 against 10^6 transitions per transition, highest", length, AtMost(1.1)),
+    ]);
 }

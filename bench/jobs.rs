@@ -154,8 +154,87 @@ fn arithmetic(rounds: u64) -> Job {
     job("arithmetic", 1_000, &[rounds, 1], &[(2, body)])
 }
 
-pub fn all() -> Vec<Job> {
+/// The six.
+pub fn six() -> Vec<Job> {
     vec![fibonacci(27), range_sum(1 << 19), lets_and_calls(60_000), deep_plain(4_000, 800_000), deep_forks(4_000, 200), arithmetic(400_000)]
+}
+
+/// f(n) = n where n < 2, else f(n - 1) + f(n - 2), without a fork.
+fn fibonacci_by_add(n: u64) -> Job {
+    let again = |less| Call(0, vec![subtract(Local(0), Number(less))]);
+    let body = choose(less(Local(0), Number(2)), Local(0), add(again(1), again(2)));
+    job("fibonacci by add", 1_000, &[n], &[(1, body)])
+}
+
+/// Counts down with the next count as the only argument: a loop of so many rounds. Functions 1 and up are given.
+fn countdown(name: &'static str, rounds: u64, next: Tree, others: Vec<(u32, Tree)>) -> Job {
+    let body = choose(Local(0), next, Number(0));
+    let functions: Vec<(u32, Tree)> = std::iter::once((1, body)).chain(others).collect();
+    job(name, 1_000, &[rounds], &functions)
+}
+
+/// Calls itself with the count less a tree.
+fn less_by(tree: Tree) -> Tree {
+    Call(0, vec![subtract(Local(0), tree)])
+}
+
+/// Calls of arity 0, as operands.
+fn arity_0(rounds: u64) -> Job {
+    let one = add(Call(1, vec![]), Call(2, vec![]));
+    countdown("arity 0", rounds, less_by(one), vec![(0, Number(1)), (0, Number(0))])
+}
+
+/// Twelve additions nested on the left: six with a constant as right operand, and above them six with a call.
+fn left_nested_calls(rounds: u64) -> Job {
+    let constants = (0..6).fold(Local(0), |tree, _| add(tree, Number(0)));
+    let calls = (0..6).fold(constants, |tree, _| add(tree, Call(1, vec![Number(0)])));
+    countdown("left-nested calls", rounds, Call(0, vec![subtract(calls, Number(1))]), vec![(1, Local(0))])
+}
+
+/// Ten additions nested on the right above a tree of value 1.
+fn right_nested(innermost: Tree) -> Tree {
+    (0..10).fold(innermost, |tree, _| add(Number(0), tree))
+}
+
+fn right_nested_leaf(rounds: u64) -> Job {
+    countdown("right-nested", rounds, less_by(right_nested(Number(1))), vec![])
+}
+
+fn right_nested_call(rounds: u64) -> Job {
+    countdown("right-nested call", rounds, less_by(right_nested(Call(1, vec![Number(1)]))), vec![(1, Local(0))])
+}
+
+/// Fifteen nested lets of calls, so that sixteen locals are bound.
+fn sixteen_locals(rounds: u64) -> Job {
+    let chain = (1..16).rev().fold(less_by(Number(1)), |rest, slot| bind(Call(1, vec![add(Local(slot - 1), Number(1))]), rest));
+    countdown("sixteen locals", rounds, chain, vec![(1, Local(0))])
+}
+
+/// Choose nodes as operands of an addition.
+fn choose_operands(rounds: u64) -> Job {
+    let sign = || choose(less(Local(0), Number(5)), Number(1), Number(2));
+    countdown("choose as operands", rounds, bind(add(sign(), sign()), less_by(Number(1))), vec![])
+}
+
+/// Fibonacci with a small N, so that most forks are promoted.
+pub fn small_periods() -> Vec<Job> {
+    let named = [("fibonacci, N 1", 1), ("fibonacci, N 5", 5), ("fibonacci, N 20", 20)];
+    named.map(|(name, period)| Job { name, period, ..fibonacci(25) }).into()
+}
+
+/// The ten further: forms that the six have not, or seldom. The small periods are the last of them.
+pub fn further() -> Vec<Job> {
+    let mut all = vec![
+        fibonacci_by_add(25),
+        arity_0(600_000),
+        left_nested_calls(100_000),
+        right_nested_leaf(200_000),
+        right_nested_call(200_000),
+        sixteen_locals(30_000),
+        choose_operands(400_000),
+    ];
+    all.extend(small_periods());
+    all
 }
 
 /// A tree of exactly n nodes that uses every tag, for the largest table.
