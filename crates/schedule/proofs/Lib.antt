@@ -14,4 +14,5 @@ pub mod WorkCount
 pub mod Demand
 pub mod Bounds
 pub mod Stopping
+pub mod Stretch
 mod Example

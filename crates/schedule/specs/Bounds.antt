@@ -65,6 +65,7 @@ pub record Bounded (τ : ℕ) (M : FrameMachine) (fuel frames : ℕ) (c : Contro
   pub within-frames : length S ≤ frames
   pub depth : t .deepest ≤ frames
   pub credits : n ≤ t .transitions
+  pub spanned : n ≤ g
   pub costs : total kept-spans S + g ≤ t .transitions + 10000 * t .forks
   pub forks : t .forks + measure (spans τ) M fuel frames c S (t .transitions) ≤ 5 * fuel + frames
 

@@ -8,3 +8,4 @@ pub mod Homomorphism
 pub mod Lockstep
 pub mod Demand
 pub mod Bounds
+pub mod Stretch
