@@ -21,6 +21,25 @@ ghost use lib.ListN.{length, drop, replicate};
 ghost use lib.Seq.{paste};
 ghost use Rattle.frames.specs.Frames.{localsWord, argumentsWord, pushed, turned, collected, marked, loaded, appended};
 
+// The words of a frame, and where its parts stand in it.
+pub const WORDS: usize = 32;
+
+pub const FUNCTION: usize = 1;
+
+pub const NODE: usize = 2;
+
+pub const COUNT: usize = 3;
+
+pub const VALUE: usize = 4;
+
+pub const BEFORE: usize = 5;
+
+pub const LEFT: usize = 6;
+
+pub const LOCALS: usize = 8;
+
+pub const ARGUMENTS: usize = 24;
+
 // Copies n words of `src`, from word `from` on, over those of `dst` from word `at` on, in a loop: compiled to a call of memcpy.
 fn copy_many(dst: &mut [u64], at: usize, src: &[u64], from: usize, n: usize)
     requires { ⌜ (at + n ≤ length (now dst)) × (from + n ≤ length (now src)) ⌝ }
@@ -71,14 +90,14 @@ pub fn push(
     requires { ⌜ (32 * depth + 32 ≤ length (now ws)) × (k ≤ 16) × (length (now locals) ≡ 16) ⌝ }
     ensures { λ _. ⌜ now (ws .exit) ≡ pushed (now (ws .entry)) depth kind function node k (now (locals .entry)) (before .0) ⌝ }
 {
-    let b = 32 * depth;
+    let b = WORDS * depth;
     ws[b] = kind;
-    ws[b + 1] = function as u64;
-    ws[b + 2] = node as u64;
-    ws[b + 3] = k as u64;
-    ws[b + 4] = 0;
-    ws[b + 5] = before.0;
-    copy(ws, b + 8, locals, 0, k);
+    ws[b + FUNCTION] = function as u64;
+    ws[b + NODE] = node as u64;
+    ws[b + COUNT] = k as u64;
+    ws[b + VALUE] = 0;
+    ws[b + BEFORE] = before.0;
+    copy(ws, b + LOCALS, locals, 0, k);
 }
 
 // Turns frame `top` to its second child: another kind, the first child's value and, at a fork, the span of the left branch.
@@ -86,10 +105,10 @@ pub fn turn(ws: &mut [u64], top: usize, kind: u64, v: u64, span: Span)
     requires { ⌜ 32 * top + 32 ≤ length (now ws) ⌝ }
     ensures { λ _. ⌜ now (ws .exit) ≡ turned (now (ws .entry)) top kind v (span .0) ⌝ }
 {
-    let b = 32 * top;
+    let b = WORDS * top;
     ws[b] = kind;
-    ws[b + 4] = v;
-    ws[b + 6] = span.0;
+    ws[b + VALUE] = v;
+    ws[b + LEFT] = span.0;
 }
 
 // Collects v as argument n of frame `top`, which has collected those before it.
@@ -97,9 +116,9 @@ pub fn collect(ws: &mut [u64], top: usize, n: usize, v: u64)
     requires { ⌜ (32 * top + 32 ≤ length (now ws)) × (n < 3) ⌝ }
     ensures { λ _. ⌜ now (ws .exit) ≡ collected (now (ws .entry)) top n v ⌝ }
 {
-    let b = 32 * top;
-    ws[b + 24 + n] = v;
-    ws[b + 4] = (n + 1) as u64;
+    let b = WORDS * top;
+    ws[b + ARGUMENTS + n] = v;
+    ws[b + VALUE] = (n + 1) as u64;
 }
 
 // Promotes frame `at`: another kind, and the span before the fork.
@@ -107,9 +126,9 @@ pub fn mark(ws: &mut [u64], at: usize, kind: u64, span: Span)
     requires { ⌜ 32 * at + 32 ≤ length (now ws) ⌝ }
     ensures { λ _. ⌜ now (ws .exit) ≡ marked (now (ws .entry)) at kind (span .0) ⌝ }
 {
-    let b = 32 * at;
+    let b = WORDS * at;
     ws[b] = kind;
-    ws[b + 5] = span.0;
+    ws[b + BEFORE] = span.0;
 }
 
 // Brings the k locals that frame `top` saves back.
@@ -117,8 +136,8 @@ pub fn load(locals: &mut [u64], ws: &[u64], top: usize, k: usize)
     requires { ⌜ (32 * top + 32 ≤ length (now ws)) × (k ≤ 16) × (length (now locals) ≡ 16) ⌝ }
     ensures { λ _. ⌜ now (locals .exit) ≡ loaded (now (locals .entry)) (now (ws .entry)) (localsWord top) k ⌝ }
 {
-    let b = 32 * top;
-    copy(locals, 0, ws, b + 8, k);
+    let b = WORDS * top;
+    copy(locals, 0, ws, b + LOCALS, k);
 }
 
 // Makes the n arguments that frame `top` has collected the first locals.
@@ -126,8 +145,8 @@ pub fn load_arguments(locals: &mut [u64], ws: &[u64], top: usize, n: usize)
     requires { ⌜ (32 * top + 32 ≤ length (now ws)) × (n ≤ 3) × (length (now locals) ≡ 16) ⌝ }
     ensures { λ _. ⌜ now (locals .exit) ≡ loaded (now (locals .entry)) (now (ws .entry)) (argumentsWord top) n ⌝ }
 {
-    let b = 32 * top;
-    copy(locals, 0, ws, b + 24, n);
+    let b = WORDS * top;
+    copy(locals, 0, ws, b + ARGUMENTS, n);
 }
 
 // Binds one local more, v, after the first k.
