@@ -15,6 +15,29 @@ ghost use Rattle.table.specs.Read.{startsOf};
 ghost use Rattle.moves.specs.Layout.{ticked, restarted, risen, oldestWith, oldestWithout, halted};
 ghost use Rattle.moves.specs.Ready.{Ready, Evaluates, Returns, Paid, Stepped, Advanced, Framed, transited, Opened, Forked, OpenedBoth, Sitting, Child, Operand, operation, Resumed, calledAt, Concluded, Found, Promoted};
 
+// The kinds of frames: an arithmetic that awaits its left or its right operand, a choose, a let, a call; a plain fork that awaits its left or
+// its right value, and a promoted one.
+pub const LEFT_OPERAND: u64 = 0;
+
+pub const RIGHT_OPERAND: u64 = 1;
+
+pub const CONDITION: u64 = 2;
+
+pub const BINDING: u64 = 3;
+
+pub const ARGUMENT: u64 = 4;
+
+pub const PLAIN_LEFT: u64 = 5;
+
+pub const PLAIN_RIGHT: u64 = 6;
+
+pub const PROMOTED_LEFT: u64 = 7;
+
+pub const PROMOTED_RIGHT: u64 = 8;
+
+// No plain fork: above every depth.
+pub const NO_FORK: usize = 4096;
+
 // A node of a function with its number of locals, or a value that returns.
 pub enum Control {
     Eval(usize, usize, usize),
@@ -77,7 +100,7 @@ fn higher(a: usize, b: usize) -> usize
     if b <= a { a } else { b }
 }
 
-fn halt(number: u32, function: usize, node: usize) -> Step
+pub fn halt(number: u32, function: usize, node: usize) -> Step
     ensures { λ r. ⌜ r ≡ halted number function node ⌝ }
 {
     Step::Halt(Stopped {
@@ -154,7 +177,7 @@ fn rise(s: Registers) -> Registers
 }
 
 // A transition that opens no frame, if there is fuel.
-fn transit(plan: Plan, s: Registers, seat: Seat, control: Control) -> Step
+pub fn transit(plan: Plan, s: Registers, seat: Seat, control: Control) -> Step
     requires { ⌜ (s .credits .0 < 2 ^ 60) × (s .span .0 < 2 ^ 60) × (s .transitions < 2 ^ 60) ⌝ }
     ensures { λ r. ⌜ r ≡ transited plan s seat control ⌝ }
 {
@@ -167,7 +190,7 @@ fn transit(plan: Plan, s: Registers, seat: Seat, control: Control) -> Step
 }
 
 // A transition that opens a frame, if there is fuel and then a free frame.
-fn open(
+pub fn open(
     ws: &mut [u64],
     locals: &[u64],
     plan: Plan,
@@ -185,7 +208,7 @@ fn open(
     let k = seat.count;
     let fuel = plan.fuel;
     if fuel.allows(s.transitions) {
-        if depth < ws.len() / 32 {
+        if depth < ws.len() / frames::WORDS {
             frames::push(ws, depth, kind, f, p, k, locals, Span::none());
             let up = rise(s);
             Step::Go(tick(up, Control::Eval(f, p + 1, k), depth + 1, oldest))
@@ -207,8 +230,8 @@ fn fork(ws: &mut [u64], locals: &[u64], s: Registers, seat: Seat) -> Step
     let p = seat.node;
     let k = seat.count;
     let span = s.span;
-    if depth < ws.len() / 32 {
-        frames::push(ws, depth, 7, f, p, k, locals, span);
+    if depth < ws.len() / frames::WORDS {
+        frames::push(ws, depth, PROMOTED_LEFT, f, p, k, locals, span);
         let up = rise(s);
         Step::Go(restart(
             up,
@@ -234,11 +257,11 @@ fn oldest_with(oldest: usize, depth: usize) -> usize
 fn oldest_without(oldest: usize, top: usize) -> usize
     ensures { λ r. ⌜ r ≡ oldestWithout oldest top ⌝ }
 {
-    if oldest == top { 4096 } else { oldest }
+    if oldest == top { NO_FORK } else { oldest }
 }
 
 // Evaluates a "both": a parallel fork looks only for its frame.
-fn evaluate_both(ws: &mut [u64], locals: &[u64], plan: Plan, s: Registers, seat: Seat) -> Step
+pub fn evaluate_both(ws: &mut [u64], locals: &[u64], plan: Plan, s: Registers, seat: Seat) -> Step
     requires { ⌜ Framed (now ws) (now locals) s seat ⌝ }
     ensures { λ r. ⌜ OpenedBoth (now (ws .entry)) (now (ws .exit)) (now (locals .entry)) plan s seat r ⌝ }
 {
@@ -246,40 +269,7 @@ fn evaluate_both(ws: &mut [u64], locals: &[u64], plan: Plan, s: Registers, seat:
         fork(ws, locals, s, seat)
     } else {
         let oldest = oldest_with(s.oldest, s.depth);
-        open(ws, locals, plan, s, seat, 5, oldest)
-    }
-}
-
-// Evaluates a node.
-fn evaluate(
-    words: &[u32],
-    starts: &[usize],
-    ws: &mut [u64],
-    locals: &[u64],
-    plan: Plan,
-    s: Registers,
-    seat: Seat,
-) -> Step
-    requires { ⌜ (Evaluates (now words) (now ws) (now locals) plan s seat) × (now starts ≡ startsOf (now words)) ⌝ }
-    ensures { λ r. ⌜ Stepped (now (words .entry)) (now (ws .entry)) (now (locals .entry)) plan s (now (ws .exit)) (now (locals .entry)) r ⌝ }
-{
-    let f = seat.function;
-    let p = seat.node;
-    match table::node_at(words, starts[f], p) {
-        Node::Constant(v) => transit(plan, s, seat, Control::Ret(v)),
-        Node::Local(slot) => transit(plan, s, seat, Control::Ret(locals[slot])),
-        Node::Arithmetic(_, _) => open(ws, locals, plan, s, seat, 0, s.oldest),
-        Node::Choose(_, _) => open(ws, locals, plan, s, seat, 2, s.oldest),
-        Node::Let(_) => open(ws, locals, plan, s, seat, 3, s.oldest),
-        Node::Call(g, _, _) => {
-            if table::arity(words, g) == 0 {
-                transit(plan, s, seat, Control::Eval(g, 0, 0))
-            } else {
-                open(ws, locals, plan, s, seat, 4, s.oldest)
-            }
-        }
-        Node::Both(_, _) => evaluate_both(ws, locals, plan, s, seat),
-        Node::Unknown => halt(4, f, p),
+        open(ws, locals, plan, s, seat, PLAIN_LEFT, oldest)
     }
 }
 
@@ -295,10 +285,10 @@ fn child(
     requires { ⌜ (Sitting (now words) (now ws) (now locals) top) × (now starts ≡ startsOf (now words)) ⌝ }
     ensures { λ r. ⌜ Child (now (words .entry)) (now (ws .entry)) (now (locals .entry)) (32 * top) last (now (locals .exit)) r ⌝ }
 {
-    let b = 32 * top;
-    let function = index(ws[b + 1]);
-    let p = index(ws[b + 2]);
-    let count = index(ws[b + 3]);
+    let b = frames::WORDS * top;
+    let function = index(ws[b + frames::FUNCTION]);
+    let p = index(ws[b + frames::NODE]);
+    let count = index(ws[b + frames::COUNT]);
     frames::load(locals, ws, top, count);
     let start = starts[function];
     let node = if last {
@@ -314,7 +304,7 @@ fn child(
 }
 
 // A left operand: the right one is evaluated.
-fn ret_left_operand(
+pub fn ret_left_operand(
     words: &[u32],
     starts: &[usize],
     ws: &mut [u64],
@@ -327,7 +317,7 @@ fn ret_left_operand(
     requires { ⌜ (Returns (now words) (now ws) (now locals) plan s v top 0) × (Paid plan s) × (now starts ≡ startsOf (now words)) ⌝ }
     ensures { λ r. ⌜ Stepped (now (words .entry)) (now (ws .entry)) (now (locals .entry)) plan s (now (ws .exit)) (now (locals .exit)) r ⌝ }
 {
-    frames::turn(ws, top, 1, v, Span::none());
+    frames::turn(ws, top, RIGHT_OPERAND, v, Span::none());
     let seat = child(words, starts, ws, locals, top, false);
     Step::Go(tick(
         s,
@@ -342,14 +332,14 @@ fn operated(words: &[u32], starts: &[usize], ws: &[u64], top: usize, v: u64) -> 
     requires { ⌜ (Operand (now words) (now ws) top) × (now starts ≡ startsOf (now words)) ⌝ }
     ensures { λ r. ⌜ r ≡ operation (now (words .entry)) (now (ws .entry)) (32 * top) v ⌝ }
 {
-    let b = 32 * top;
-    let function = index(ws[b + 1]);
-    let p = index(ws[b + 2]);
+    let b = frames::WORDS * top;
+    let function = index(ws[b + frames::FUNCTION]);
+    let p = index(ws[b + frames::NODE]);
     let node = table::node_at(words, starts[function], p);
     let Node::Arithmetic(operation, _) = node else {
         return halt(4, function, p);
     };
-    match arithmetic::operate(operation, ws[b + 4], v) {
+    match arithmetic::operate(operation, ws[b + frames::VALUE], v) {
         Computed::Is(r) => Step::Value(r),
         Computed::Fails(number) => halt(number, function, p),
     }
@@ -367,7 +357,7 @@ fn resumed(s: Registers, top: usize, computed: Step) -> Step
 }
 
 // A right operand: the operation is made.
-fn ret_right_operand(
+pub fn ret_right_operand(
     words: &[u32],
     starts: &[usize],
     ws: &[u64],
@@ -385,7 +375,7 @@ fn ret_right_operand(
 }
 
 // A condition: the branch is evaluated.
-fn ret_condition(
+pub fn ret_condition(
     words: &[u32],
     starts: &[usize],
     ws: &[u64],
@@ -408,7 +398,7 @@ fn ret_condition(
 }
 
 // The first of a let: the second is evaluated with the value added.
-fn ret_binding(
+pub fn ret_binding(
     words: &[u32],
     starts: &[usize],
     ws: &[u64],
@@ -479,7 +469,7 @@ fn last_argument(
 }
 
 // An argument of a call.
-fn ret_argument(
+pub fn ret_argument(
     words: &[u32],
     starts: &[usize],
     ws: &mut [u64],
@@ -492,10 +482,10 @@ fn ret_argument(
     requires { ⌜ (Returns (now words) (now ws) (now locals) plan s v top 4) × (Paid plan s) × (now starts ≡ startsOf (now words)) ⌝ }
     ensures { λ r. ⌜ Stepped (now (words .entry)) (now (ws .entry)) (now (locals .entry)) plan s (now (ws .exit)) (now (locals .exit)) r ⌝ }
 {
-    let b = 32 * top;
-    let function = index(ws[b + 1]);
-    let p = index(ws[b + 2]);
-    let n = index(ws[b + 4]);
+    let b = frames::WORDS * top;
+    let function = index(ws[b + frames::FUNCTION]);
+    let p = index(ws[b + frames::NODE]);
+    let n = index(ws[b + frames::VALUE]);
     let g = table::called(words, starts[function], p);
     if n + 1 < table::arity(words, g) {
         next_argument(words, starts, ws, locals, plan, s, v, top, n)
@@ -505,7 +495,7 @@ fn ret_argument(
 }
 
 // The left value of a plain fork: the right branch is evaluated.
-fn ret_plain_left(
+pub fn ret_plain_left(
     words: &[u32],
     starts: &[usize],
     ws: &mut [u64],
@@ -518,7 +508,7 @@ fn ret_plain_left(
     requires { ⌜ (Returns (now words) (now ws) (now locals) plan s v top 5) × (Paid plan s) × (now starts ≡ startsOf (now words)) ⌝ }
     ensures { λ r. ⌜ Stepped (now (words .entry)) (now (ws .entry)) (now (locals .entry)) plan s (now (ws .exit)) (now (locals .exit)) r ⌝ }
 {
-    frames::turn(ws, top, 6, v, Span::none());
+    frames::turn(ws, top, PLAIN_RIGHT, v, Span::none());
     let seat = child(words, starts, ws, locals, top, false);
     let oldest = oldest_without(s.oldest, top);
     Step::Go(tick(
@@ -541,7 +531,7 @@ fn body(
     requires { ⌜ (Sitting (now words) (now ws) (now locals) top) × (now starts ≡ startsOf (now words)) × (getD (now ws) (32 * top + 3) 0 + 2 ≤ 16) ⌝ }
     ensures { λ r. ⌜ Concluded (now (words .entry)) (now (ws .entry)) (now (locals .entry)) (32 * top) v (now (locals .exit)) r ⌝ }
 {
-    let left = ws[32 * top + 4];
+    let left = ws[frames::WORDS * top + frames::VALUE];
     let seat = child(words, starts, ws, locals, top, true);
     let count = seat.count;
     frames::append(locals, count, left);
@@ -550,7 +540,7 @@ fn body(
 }
 
 // The right value of a plain fork: its body is evaluated.
-fn ret_plain_right(
+pub fn ret_plain_right(
     words: &[u32],
     starts: &[usize],
     ws: &[u64],
@@ -582,7 +572,7 @@ fn turned(
     ensures { λ r. ⌜ Stepped (now (words .entry)) (now (ws .entry)) (now (locals .entry)) plan s (now (ws .exit)) (now (locals .exit)) r ⌝ }
 {
     let span = s.span;
-    frames::turn(ws, top, 8, v, span);
+    frames::turn(ws, top, PROMOTED_RIGHT, v, span);
     let seat = child(words, starts, ws, locals, top, false);
     Step::Go(restart(
         s,
@@ -609,8 +599,8 @@ fn joined(
     requires { ⌜ (Returns (now words) (now ws) (now locals) plan s v top kind) × (8 ≤ kind) × (now starts ≡ startsOf (now words)) ⌝ }
     ensures { λ r. ⌜ Stepped (now (words .entry)) (now (ws .entry)) (now (locals .entry)) plan s (now (ws .entry)) (now (locals .exit)) r ⌝ }
 {
-    let before = Span(ws[32 * top + 5]);
-    let left = Span(ws[32 * top + 6]);
+    let before = Span(ws[frames::WORDS * top + frames::BEFORE]);
+    let left = Span(ws[frames::WORDS * top + frames::LEFT]);
     let right = s.span;
     let whole = before.joined(plan.tau, left, right);
     let control = body(words, starts, ws, locals, top, v);
@@ -618,7 +608,7 @@ fn joined(
 }
 
 // A value arrives at a promoted fork.
-fn arrive(
+pub fn arrive(
     words: &[u32],
     starts: &[usize],
     ws: &mut [u64],
@@ -632,66 +622,10 @@ fn arrive(
     requires { ⌜ (Returns (now words) (now ws) (now locals) plan s v top kind) × (7 ≤ kind) × (now starts ≡ startsOf (now words)) ⌝ }
     ensures { λ r. ⌜ Stepped (now (words .entry)) (now (ws .entry)) (now (locals .entry)) plan s (now (ws .exit)) (now (locals .exit)) r ⌝ }
 {
-    if kind == 7 {
+    if kind == PROMOTED_LEFT {
         turned(words, starts, ws, locals, plan, s, v, top)
     } else {
         joined(words, starts, ws, locals, plan, s, v, top, kind)
-    }
-}
-
-// A value returns by a transition, to a frame that is not promoted.
-fn ret_paid(
-    words: &[u32],
-    starts: &[usize],
-    ws: &mut [u64],
-    locals: &mut [u64],
-    plan: Plan,
-    s: Registers,
-    v: u64,
-    top: usize,
-    kind: u64,
-) -> Step
-    requires { ⌜ (Returns (now words) (now ws) (now locals) plan s v top kind) × (kind < 7) × (Paid plan s) × (now starts ≡ startsOf (now words)) ⌝ }
-    ensures { λ r. ⌜ Stepped (now (words .entry)) (now (ws .entry)) (now (locals .entry)) plan s (now (ws .exit)) (now (locals .exit)) r ⌝ }
-{
-    match kind {
-        0 => ret_left_operand(words, starts, ws, locals, plan, s, v, top),
-        1 => ret_right_operand(words, starts, ws, locals, plan, s, v, top),
-        2 => ret_condition(words, starts, ws, locals, plan, s, v, top),
-        3 => ret_binding(words, starts, ws, locals, plan, s, v, top),
-        4 => ret_argument(words, starts, ws, locals, plan, s, v, top),
-        5 => ret_plain_left(words, starts, ws, locals, plan, s, v, top),
-        _ => ret_plain_right(words, starts, ws, locals, plan, s, v, top),
-    }
-}
-
-// A value returns to the newest frame, or ends the run.
-fn ret(
-    words: &[u32],
-    starts: &[usize],
-    ws: &mut [u64],
-    locals: &mut [u64],
-    plan: Plan,
-    s: Registers,
-    v: u64,
-) -> Step
-    requires { ⌜ (Ready (now words) (now ws) (now locals) plan s) × (s .control ≡ Control.Ret v) × (now starts ≡ startsOf (now words)) ⌝ }
-    ensures { λ r. ⌜ Stepped (now (words .entry)) (now (ws .entry)) (now (locals .entry)) plan s (now (ws .exit)) (now (locals .exit)) r ⌝ }
-{
-    let depth = s.depth;
-    if depth == 0 {
-        Step::Value(v)
-    } else {
-        let top = depth - 1;
-        let kind = ws[32 * top];
-        let fuel = plan.fuel;
-        if 7 <= kind {
-            arrive(words, starts, ws, locals, plan, s, v, top, kind)
-        } else if fuel.allows(s.transitions) {
-            ret_paid(words, starts, ws, locals, plan, s, v, top, kind)
-        } else {
-            halt(20, index(ws[32 * top + 1]), index(ws[32 * top + 2]))
-        }
     }
 }
 
@@ -702,70 +636,34 @@ fn search(ws: &[u64], from: usize, depth: usize) -> usize
 {
     let mut i = from;
     while i < depth {
-        if ws[32 * i] == 5 {
+        if ws[frames::WORDS * i] == PLAIN_LEFT {
             return i;
         }
         i += 1;
     }
-    4096
+    NO_FORK
 }
 
 // Promotes the oldest plain fork.
-fn promote(ws: &mut [u64], s: Registers) -> Registers
+pub fn promote(ws: &mut [u64], s: Registers) -> Registers
     requires { ⌜ (32 * (s .depth) ≤ length (now ws)) × (s .oldest < s .depth) × (s .depth ≤ 4096) × (s .forks < 2 ^ 60) ⌝ }
     ensures { λ r. ⌜ Promoted (now (ws .entry)) s (now (ws .exit)) r ⌝ }
 {
     let at = s.oldest;
     let span = s.span;
     let control = s.control;
-    frames::mark(ws, at, 7, span);
+    frames::mark(ws, at, PROMOTED_LEFT, span);
     let next = search(ws, at + 1, s.depth);
     restart(s, control, s.depth, next, Span::none(), s.forks + 1)
 }
 
 // Whether a promotion is due.
-fn due(period: u64, credits: Credits, oldest: usize, depth: usize) -> bool
+pub fn due(period: u64, credits: Credits, oldest: usize, depth: usize) -> bool
     ensures { λ r. ⌜ r ≡ (leb period (credits .0) && ltb oldest depth) ⌝ }
 {
     if credits.reach(period) {
         oldest < depth
     } else {
         false
-    }
-}
-
-// One move: a promotion that is due, or else any other.
-pub fn advance(
-    words: &[u32],
-    starts: &[usize],
-    ws: &mut [u64],
-    locals: &mut [u64],
-    plan: Plan,
-    s: Registers,
-) -> Step
-    requires { ⌜ (Ready (now words) (now ws) (now locals) plan s) × (now starts ≡ startsOf (now words)) ⌝ }
-    ensures { λ r. ⌜ Advanced (now (words .entry)) (now (ws .entry)) (now (locals .entry)) plan s (now (ws .exit)) (now (locals .exit)) r ⌝ }
-{
-    let credits = s.credits;
-    if due(plan.period, credits, s.oldest, s.depth) {
-        Step::Go(promote(ws, s))
-    } else {
-        let control = s.control;
-        match control {
-            Control::Eval(function, node, count) => evaluate(
-                words,
-                starts,
-                ws,
-                locals,
-                plan,
-                s,
-                Seat {
-                    function,
-                    node,
-                    count,
-                },
-            ),
-            Control::Ret(v) => ret(words, starts, ws, locals, plan, s, v),
-        }
     }
 }

@@ -6,10 +6,10 @@ use Rattle.moves.proofs.arrive.Statement.{statement}
 use Rattle.moves.proofs.arrive.Tie as tie
 
 turned-requires : tie.Need-turned-requires
-turned-requires c κs = (record { ready = c .before .before .before .before .before .before .before .pre .0 .ready; is = c .before .before .before .before .before .before .before .pre .0 .is; depth = c .before .before .before .before .before .before .before .pre .0 .depth; of-kind = c .before .before .before .before .before .before .before .pre .0 .of-kind ∙ c .before .before .if1 .taken }, c .before .before .before .before .before .before .before .pre .2)
+turned-requires c κs = let entry = c .before .before .before .before .before .before .before in (record { ready = entry .pre .0 .ready; is = entry .pre .0 .is; depth = entry .pre .0 .depth; of-kind = entry .pre .0 .of-kind ∙ c .before .before .if1 .taken }, entry .pre .2)
 
 joined-requires : tie.Need-joined-requires
-joined-requires c κs = (c .before .before .before .before .before .before .before .pre .0, omega arith, c .before .before .before .before .before .before .before .pre .2)
+joined-requires c κs = let entry = c .before .before .before .before .before .before .before in (entry .pre .0, omega arith, entry .pre .2)
 
 same-length : tie.Need-same-length
 same-length c = search needs

@@ -51,25 +51,25 @@ mul-start : tie.Need-mul-start
 mul-start c = search needs
 
 shared-slice-read-start : tie.Need-shared-slice-read-start
-shared-slice-read-start c = frame-start (c .before .before .before .before .before .before .before .before .before .before .before .before .before .before .before .args .words .now) (c .before .before .before .before .before .before .before .before .before .before .before .before .before .before .before .args .ws .now) _ (32 * c .before .before .before .before .before .before .before .before .before .before .before .before .before .before .before .args .top) (c .before .before .before .before .before .before .before .before .before .before .before .before .before .before .before .pre .0 .table) (c .before .before .before .before .before .before .before .before .before .before .before .before .before .before .before .pre .0 .stands) (c .before .before .before .before .before .before .before .before .before .before .before .before .before .before .before .pre .1) _ _ (c .before .before .before .before .before .before .before .before .before .index .ensures) (c .before .before .before .before .before .before .before .index2 .ensures)
+shared-slice-read-start c = let entry = c .before .before .before .before .before .before .before .before .before .before .before .before .before .before .before in frame-start (entry .args .words .now) (entry .args .ws .now) _ (32 * entry .args .top) (entry .pre .0 .table) (entry .pre .0 .stands) (entry .pre .1) _ _ (c .before .before .before .before .before .before .before .before .before .index .ensures) (c .before .before .before .before .before .before .before .index2 .ensures)
 
 third-requires : tie.Need-third-requires
-third-requires c κs = frame-inside (c .before .before .before .before .before .before .before .before .before .before .before .before .before .before .before .before .args .words .now) (c .before .before .before .before .before .before .before .before .before .before .before .before .before .before .before .before .args .ws .now) _ (32 * c .before .before .before .before .before .before .before .before .before .before .before .before .before .before .before .before .args .top) (c .before .before .before .before .before .before .before .before .before .before .before .before .before .before .before .before .pre .0 .table) (c .before .before .before .before .before .before .before .before .before .before .before .before .before .before .before .before .pre .0 .stands) (c .before .before .before .before .before .before .before .before .before .before .before .before .before .before .before .before .pre .1) _ _ (c .before .before .before .before .before .before .before .before .before .before .index .ensures) (c .before .before .before .before .before .before .before .before .index2 .ensures)
+third-requires c κs = let entry = c .before .before .before .before .before .before .before .before .before .before .before .before .before .before .before .before in frame-inside (entry .args .words .now) (entry .args .ws .now) _ (32 * entry .args .top) (entry .pre .0 .table) (entry .pre .0 .stands) (entry .pre .1) _ _ (c .before .before .before .before .before .before .before .before .before .before .index .ensures) (c .before .before .before .before .before .before .before .before .index2 .ensures)
 
 second-requires : tie.Need-second-requires
-second-requires c κs = frame-inside (c .before .before .before .before .before .before .before .before .before .before .before .before .before .before .before .before .args .words .now) (c .before .before .before .before .before .before .before .before .before .before .before .before .before .before .before .before .args .ws .now) _ (32 * c .before .before .before .before .before .before .before .before .before .before .before .before .before .before .before .before .args .top) (c .before .before .before .before .before .before .before .before .before .before .before .before .before .before .before .before .pre .0 .table) (c .before .before .before .before .before .before .before .before .before .before .before .before .before .before .before .before .pre .0 .stands) (c .before .before .before .before .before .before .before .before .before .before .before .before .before .before .before .before .pre .1) _ _ (c .before .before .before .before .before .before .before .before .before .before .index .ensures) (c .before .before .before .before .before .before .before .before .index2 .ensures)
+second-requires c κs = let entry = c .before .before .before .before .before .before .before .before .before .before .before .before .before .before .before .before in frame-inside (entry .args .words .now) (entry .args .ws .now) _ (32 * entry .args .top) (entry .pre .0 .table) (entry .pre .0 .stands) (entry .pre .1) _ _ (c .before .before .before .before .before .before .before .before .before .before .index .ensures) (c .before .before .before .before .before .before .before .before .index2 .ensures)
 
 same-length : tie.Need-same-length
 same-length c = search needs
 
 returns : tie.Need-returns
-returns c = rw (c .before .if1 .taken) (third-child (c .before .before .before .before .before .before .before .before .before .before .before .before .before .before .before .before .before .args .words .now) (c .before .before .before .before .before .before .before .before .before .before .before .before .before .before .before .before .before .args .ws .now) _ (32 * c .before .before .before .before .before .before .before .before .before .before .before .before .before .before .before .before .before .args .top) (c .before .before .before .before .before .before .before .before .before .before .before .before .before .before .before .before .before .pre .0 .table) (c .before .before .before .before .before .before .before .before .before .before .before .before .before .before .before .before .before .pre .0 .stands) (c .before .before .before .before .before .before .before .before .before .before .before .before .before .before .before .before .before .pre .1) _ _ (c .before .before .before .before .before .before .before .before .before .before .before .index .ensures) (c .before .before .before .before .before .before .before .before .before .index2 .ensures) _ (c .before .before .before .before .before .before .before .index3 .ensures) _ _ (c .before .before .before .before .before .load .ensures) _ (c .third .ensures))
+returns c = let entry = c .before .before .before .before .before .before .before .before .before .before .before .before .before .before .before .before .before in rw (c .before .if1 .taken) (third-child (entry .args .words .now) (entry .args .ws .now) _ (32 * entry .args .top) (entry .pre .0 .table) (entry .pre .0 .stands) (entry .pre .1) _ _ (c .before .before .before .before .before .before .before .before .before .before .before .index .ensures) (c .before .before .before .before .before .before .before .before .before .index2 .ensures) _ (c .before .before .before .before .before .before .before .index3 .ensures) _ _ (c .before .before .before .before .before .load .ensures) _ (c .third .ensures))
 
 same-length-2 : tie.Need-same-length-2
 same-length-2 c = search needs
 
 returns-2 : tie.Need-returns-2
-returns-2 c = rw (c .before .if1 .left) (second-child (c .before .before .before .before .before .before .before .before .before .before .before .before .before .before .before .before .before .args .words .now) (c .before .before .before .before .before .before .before .before .before .before .before .before .before .before .before .before .before .args .ws .now) _ (32 * c .before .before .before .before .before .before .before .before .before .before .before .before .before .before .before .before .before .args .top) (c .before .before .before .before .before .before .before .before .before .before .before .before .before .before .before .before .before .pre .0 .table) (c .before .before .before .before .before .before .before .before .before .before .before .before .before .before .before .before .before .pre .0 .stands) (c .before .before .before .before .before .before .before .before .before .before .before .before .before .before .before .before .before .pre .1) _ _ (c .before .before .before .before .before .before .before .before .before .before .before .index .ensures) (c .before .before .before .before .before .before .before .before .before .index2 .ensures) _ (c .before .before .before .before .before .before .before .index3 .ensures) _ _ (c .before .before .before .before .before .load .ensures) _ (c .second .ensures))
+returns-2 c = let entry = c .before .before .before .before .before .before .before .before .before .before .before .before .before .before .before .before .before in rw (c .before .if1 .left) (second-child (entry .args .words .now) (entry .args .ws .now) _ (32 * entry .args .top) (entry .pre .0 .table) (entry .pre .0 .stands) (entry .pre .1) _ _ (c .before .before .before .before .before .before .before .before .before .before .before .index .ensures) (c .before .before .before .before .before .before .before .before .before .index2 .ensures) _ (c .before .before .before .before .before .before .before .index3 .ensures) _ _ (c .before .before .before .before .before .load .ensures) _ (c .second .ensures))
 
 pub child-spec : {M : Type 1} → statement M
 child-spec =

@@ -29,10 +29,10 @@ shared-slice-read-t19-2 : tie.Need-shared-slice-read-t19-2
 shared-slice-read-t19-2 c = search needs
 
 joined-requires : tie.Need-joined-requires
-joined-requires c κs = join-fits (c .before .before .before .before .before .before .before .args .words .now) (c .before .before .before .before .before .before .before .args .ws .now) (c .before .before .before .before .before .before .before .args .locals .now) (c .before .before .before .before .before .before .before .args .plan) (c .before .before .before .before .before .before .before .args .s) (c .before .before .before .before .before .before .before .args .v) (c .before .before .before .before .before .before .before .args .top) (c .before .before .before .before .before .before .before .args .kind) (c .before .before .before .before .before .before .before .pre .0) (c .before .before .before .before .before .before .before .pre .1)
+joined-requires c κs = let entry = c .before .before .before .before .before .before .before in join-fits (entry .args .words .now) (entry .args .ws .now) (entry .args .locals .now) (entry .args .plan) (entry .args .s) (entry .args .v) (entry .args .top) (entry .args .kind) (entry .pre .0) (entry .pre .1)
 
 body-requires : tie.Need-body-requires
-body-requires c κs = (sitting (c .before .before .before .before .before .before .before .before .before .args .words .now) (c .before .before .before .before .before .before .before .before .before .args .ws .now) (c .before .before .before .before .before .before .before .before .before .args .locals .now) (c .before .before .before .before .before .before .before .before .before .args .plan) (c .before .before .before .before .before .before .before .before .before .args .s) (c .before .before .before .before .before .before .before .before .before .args .v) (c .before .before .before .before .before .before .before .before .before .args .top) (c .before .before .before .before .before .before .before .before .before .args .kind) (c .before .before .before .before .before .before .before .before .before .pre .0), c .before .before .before .before .before .before .before .before .before .pre .2, both-few (c .before .before .before .before .before .before .before .before .before .args .words .now) (c .before .before .before .before .before .before .before .before .before .args .ws .now) (c .before .before .before .before .before .before .before .before .before .args .locals .now) (c .before .before .before .before .before .before .before .before .before .args .plan) (c .before .before .before .before .before .before .before .before .before .args .s) (c .before .before .before .before .before .before .before .before .before .args .v) (c .before .before .before .before .before .before .before .before .before .args .top) (c .before .before .before .before .before .before .before .before .before .args .kind) (c .before .before .before .before .before .before .before .before .before .pre .0) (c .before .before .before .before .before .before .before .before .before .pre .1))
+body-requires c κs = let entry = c .before .before .before .before .before .before .before .before .before in (sitting (entry .args .words .now) (entry .args .ws .now) (entry .args .locals .now) (entry .args .plan) (entry .args .s) (entry .args .v) (entry .args .top) (entry .args .kind) (entry .pre .0), entry .pre .2, both-few (entry .args .words .now) (entry .args .ws .now) (entry .args .locals .now) (entry .args .plan) (entry .args .s) (entry .args .v) (entry .args .top) (entry .args .kind) (entry .pre .0) (entry .pre .1))
 
 restart-requires : tie.Need-restart-requires
 restart-requires c κs = search needs
@@ -41,7 +41,7 @@ same-length : tie.Need-same-length
 same-length c = search needs
 
 returns : tie.Need-returns
-returns c = stepped-join (c .before .before .before .before .before .before .before .before .before .before .before .before .before .args .words .now) (c .before .before .before .before .before .before .before .before .before .before .before .before .before .args .ws .now) (c .before .before .before .before .before .before .before .before .before .before .before .before .before .args .locals .now) (c .before .before .before .before .before .before .before .before .before .before .before .before .before .args .plan) (c .before .before .before .before .before .before .before .before .before .before .before .before .before .args .s) (c .before .before .before .before .before .before .before .before .before .before .before .before .before .args .v) (c .before .before .before .before .before .before .before .before .before .before .before .before .before .args .top) (c .before .before .before .before .before .before .before .before .before .before .before .before .before .args .kind) (c .before .before .before .before .before .before .before .before .before .before .before .before .before .pre .0) (c .before .before .before .before .before .before .before .before .before .before .before .before .before .pre .1) _ _ (c .before .before .before .body .ensures) _ (c .before .before .before .before .before .joined .ensures) _ (c .restart .ensures)
+returns c = let entry = c .before .before .before .before .before .before .before .before .before .before .before .before .before in stepped-join (entry .args .words .now) (entry .args .ws .now) (entry .args .locals .now) (entry .args .plan) (entry .args .s) (entry .args .v) (entry .args .top) (entry .args .kind) (entry .pre .0) (entry .pre .1) _ _ (c .before .before .before .body .ensures) _ (c .before .before .before .before .before .joined .ensures) _ (c .restart .ensures)
 
 pub joined-spec : {M : Type 1} → statement M
 joined-spec =

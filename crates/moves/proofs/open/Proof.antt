@@ -30,7 +30,7 @@ add-tick : tie.Need-add-tick
 add-tick c = search needs
 
 tick-requires : tie.Need-tick-requires
-tick-requires c κs = rw (c .rise .ensures) (c .before .before .before .before .before .before .before .before .before .before .before .before .pre .credits, c .before .before .before .before .before .before .before .before .before .before .before .before .pre .span, c .before .before .before .before .before .before .before .before .before .before .before .before .pre .transitions)
+tick-requires c κs = let entry = c .before .before .before .before .before .before .before .before .before .before .before .before in rw (c .rise .ensures) (entry .pre .credits, entry .pre .span, entry .pre .transitions)
 
 halt-requires : tie.Need-halt-requires
 halt-requires c κs = search needs

@@ -41,10 +41,10 @@ mul-node-at : tie.Need-mul-node-at
 mul-node-at c = search needs
 
 shared-slice-read-node-at : tie.Need-shared-slice-read-node-at
-shared-slice-read-node-at c = frame-start (c .before .before .before .before .before .before .before .before .args .words .now) (c .before .before .before .before .before .before .before .before .args .ws .now) _ (32 * c .before .before .before .before .before .before .before .before .args .top) (c .before .before .before .before .before .before .before .before .pre .0 .table) (c .before .before .before .before .before .before .before .before .pre .0 .stands) (c .before .before .before .before .before .before .before .before .pre .1) _ _ (c .before .before .before .index .ensures) (c .before .index2 .ensures)
+shared-slice-read-node-at c = let entry = c .before .before .before .before .before .before .before .before in frame-start (entry .args .words .now) (entry .args .ws .now) _ (32 * entry .args .top) (entry .pre .0 .table) (entry .pre .0 .stands) (entry .pre .1) _ _ (c .before .before .before .index .ensures) (c .before .index2 .ensures)
 
 node-at-requires : tie.Need-node-at-requires
-node-at-requires c κs = frame-inside (c .before .before .before .before .before .before .before .before .args .words .now) (c .before .before .before .before .before .before .before .before .args .ws .now) _ (32 * c .before .before .before .before .before .before .before .before .args .top) (c .before .before .before .before .before .before .before .before .pre .0 .table) (c .before .before .before .before .before .before .before .before .pre .0 .stands) (c .before .before .before .before .before .before .before .before .pre .1) _ _ (c .before .before .before .index .ensures) (c .before .index2 .ensures)
+node-at-requires c κs = let entry = c .before .before .before .before .before .before .before .before in frame-inside (entry .args .words .now) (entry .args .ws .now) _ (32 * entry .args .top) (entry .pre .0 .table) (entry .pre .0 .stands) (entry .pre .1) _ _ (c .before .before .before .index .ensures) (c .before .index2 .ensures)
 
 enum-known-node : tie.Need-enum-known-node
 enum-known-node c = search needs
@@ -53,7 +53,7 @@ halt-requires : tie.Need-halt-requires
 halt-requires c κs = search needs
 
 returns : tie.Need-returns
-returns c = let a = arithmetic-node (c .before .before .before .before .before .before .before .before .before .before .before .args .words .now) (c .before .before .before .before .before .before .before .before .before .before .before .args .ws .now) _ (32 * c .before .before .before .before .before .before .before .before .before .before .before .args .top) (c .before .before .before .before .before .before .before .before .before .before .before .pre .0 .table) (c .before .before .before .before .before .before .before .before .before .before .before .pre .0 .stands) (c .before .before .before .before .before .before .before .before .before .before .before .pre .1) _ _ (c .before .before .before .before .before .before .index .ensures) (c .before .before .before .before .index2 .ensures) (c .before .before .before .before .before .before .before .before .before .before .before .pre .0 .tag) _ (c .before .before .node-at .ensures) in absurd (⊎-elim (λ x. omega arith) (⊎-elim (λ x. omega arith) (⊎-elim (λ x. omega arith) (⊎-elim (λ x. omega arith) (⊎-elim (λ x. omega arith) (⊎-elim (λ x. omega arith) (λ x. omega arith)))))) (rw (a .1) at (c .before .match .keys2)))
+returns c = let entry = c .before .before .before .before .before .before .before .before .before .before .before in let a = arithmetic-node (entry .args .words .now) (entry .args .ws .now) _ (32 * entry .args .top) (entry .pre .0 .table) (entry .pre .0 .stands) (entry .pre .1) _ _ (c .before .before .before .before .before .before .index .ensures) (c .before .before .before .before .index2 .ensures) (entry .pre .0 .tag) _ (c .before .before .node-at .ensures) in absurd (⊎-elim (λ x. omega arith) (⊎-elim (λ x. omega arith) (⊎-elim (λ x. omega arith) (⊎-elim (λ x. omega arith) (⊎-elim (λ x. omega arith) (⊎-elim (λ x. omega arith) (λ x. omega arith)))))) (rw (a .1) at (c .before .match .keys2)))
 
 add-operate : tie.Need-add-operate
 add-operate c = search needs
@@ -78,11 +78,11 @@ halt-requires-2 c κs = search needs
 
 returns-2 : tie.Need-returns-2
 unfolding stepOf
-returns-2 c = sym (operation-is (c .before .before .before .before .before .before .before .before .before .before .before .before .before .before .before .before .before .args .words .now) (c .before .before .before .before .before .before .before .before .before .before .before .before .before .before .before .before .before .args .ws .now) _ (32 * c .before .before .before .before .before .before .before .before .before .before .before .before .before .before .before .before .before .args .top) (c .before .before .before .before .before .before .before .before .before .before .before .before .before .before .before .before .before .pre .0 .table) (c .before .before .before .before .before .before .before .before .before .before .before .before .before .before .before .before .before .pre .0 .stands) (c .before .before .before .before .before .before .before .before .before .before .before .before .before .before .before .before .before .pre .1) _ _ (c .before .before .before .before .before .before .before .before .before .before .before .before .index .ensures) (c .before .before .before .before .before .before .before .before .before .before .index2 .ensures) (c .before .before .before .before .before .before .before .before .before .before .before .before .before .before .before .before .before .pre .0 .tag) _ (c .before .before .before .before .before .before .before .before .node-at .ensures) (c .before .before .before .before .before .before .before .before .before .before .before .before .before .before .before .before .before .args .v) _ _ (c .before .before .before .before .before .before .node .given .1) ∙ ap (stepOf _ _) (sym (c .before .before .before .operate .ensures) ∙ c .before .r .given .1))
+returns-2 c = let entry = c .before .before .before .before .before .before .before .before .before .before .before .before .before .before .before .before .before in sym (operation-is (entry .args .words .now) (entry .args .ws .now) _ (32 * entry .args .top) (entry .pre .0 .table) (entry .pre .0 .stands) (entry .pre .1) _ _ (c .before .before .before .before .before .before .before .before .before .before .before .before .index .ensures) (c .before .before .before .before .before .before .before .before .before .before .index2 .ensures) (entry .pre .0 .tag) _ (c .before .before .before .before .before .before .before .before .node-at .ensures) (entry .args .v) _ _ (c .before .before .before .before .before .before .node .given .1) ∙ ap (stepOf _ _) (sym (c .before .before .before .operate .ensures) ∙ c .before .r .given .1))
 
 returns-3 : tie.Need-returns-3
 unfolding stepOf
-returns-3 c = c .halt2 .ensures ∙ sym (operation-is (c .before .before .before .before .before .before .before .before .before .before .before .before .before .before .before .before .before .before .args .words .now) (c .before .before .before .before .before .before .before .before .before .before .before .before .before .before .before .before .before .before .args .ws .now) _ (32 * c .before .before .before .before .before .before .before .before .before .before .before .before .before .before .before .before .before .before .args .top) (c .before .before .before .before .before .before .before .before .before .before .before .before .before .before .before .before .before .before .pre .0 .table) (c .before .before .before .before .before .before .before .before .before .before .before .before .before .before .before .before .before .before .pre .0 .stands) (c .before .before .before .before .before .before .before .before .before .before .before .before .before .before .before .before .before .before .pre .1) _ _ (c .before .before .before .before .before .before .before .before .before .before .before .before .before .index .ensures) (c .before .before .before .before .before .before .before .before .before .before .before .index2 .ensures) (c .before .before .before .before .before .before .before .before .before .before .before .before .before .before .before .before .before .before .pre .0 .tag) _ (c .before .before .before .before .before .before .before .before .before .node-at .ensures) (c .before .before .before .before .before .before .before .before .before .before .before .before .before .before .before .before .before .before .args .v) _ _ (c .before .before .before .before .before .before .before .node .given .1) ∙ ap (stepOf _ _) (sym (c .before .before .before .before .operate .ensures) ∙ c .before .before .number .given .1))
+returns-3 c = let entry = c .before .before .before .before .before .before .before .before .before .before .before .before .before .before .before .before .before .before in c .halt2 .ensures ∙ sym (operation-is (entry .args .words .now) (entry .args .ws .now) _ (32 * entry .args .top) (entry .pre .0 .table) (entry .pre .0 .stands) (entry .pre .1) _ _ (c .before .before .before .before .before .before .before .before .before .before .before .before .before .index .ensures) (c .before .before .before .before .before .before .before .before .before .before .before .index2 .ensures) (entry .pre .0 .tag) _ (c .before .before .before .before .before .before .before .before .before .node-at .ensures) (entry .args .v) _ _ (c .before .before .before .before .before .before .before .node .given .1) ∙ ap (stepOf _ _) (sym (c .before .before .before .before .operate .ensures) ∙ c .before .before .number .given .1))
 
 pub operated-spec : {M : Type 1} → statement M
 operated-spec =

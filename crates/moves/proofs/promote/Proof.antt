@@ -26,7 +26,7 @@ same-length : tie.Need-same-length
 same-length c = search needs
 
 returns : tie.Need-returns
-returns c = promotes (c .before .before .before .before .before .before .before .before .before .before .before .args .ws .now) (c .before .before .before .before .before .before .before .mark .last .0) (c .before .before .before .before .before .before .before .before .before .before .before .args .s) (c .restart .result) (c .before .before .before .search .result) (c .before .before .before .before .before .before .before .mark .ensures) (c .before .before .before .search .ensures) (rw (c .before .before .none .ensures) at (c .restart .ensures))
+returns c = let entry = c .before .before .before .before .before .before .before .before .before .before .before in promotes (entry .args .ws .now) (c .before .before .before .before .before .before .before .mark .last .0) (entry .args .s) (c .restart .result) (c .before .before .before .search .result) (c .before .before .before .before .before .before .before .mark .ensures) (c .before .before .before .search .ensures) (rw (c .before .before .none .ensures) at (c .restart .ensures))
 
 pub promote-spec : {M : Type 1} → statement M
 promote-spec =

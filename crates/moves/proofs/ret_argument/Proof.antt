@@ -47,25 +47,25 @@ index-requires-3 : tie.Need-index-requires-3
 index-requires-3 c κs = search needs
 
 mul-called : tie.Need-mul-called
-mul-called c = omega (arith, c .before .before .before .before .index .ensures, (top (c .before .before .before .before .before .before .before .before .before .before .args .words .now) (c .before .before .before .before .before .before .before .before .before .before .args .ws .now) (c .before .before .before .before .before .before .before .before .before .before .args .locals .now) (c .before .before .before .before .before .before .before .before .before .before .args .plan) (c .before .before .before .before .before .before .before .before .before .before .args .s) (c .before .before .before .before .before .before .before .before .before .before .args .v) (c .before .before .before .before .before .before .before .before .before .before .args .top) 4 (c .before .before .before .before .before .before .before .before .before .before .pre .0)) .stands .function, c .before .before .before .before .before .before .before .before .before .before .pre .0 .ready .kept .table .contents .header .few)
+mul-called c = let entry = c .before .before .before .before .before .before .before .before .before .before in omega (arith, c .before .before .before .before .index .ensures, (top (entry .args .words .now) (entry .args .ws .now) (entry .args .locals .now) (entry .args .plan) (entry .args .s) (entry .args .v) (entry .args .top) 4 (entry .pre .0)) .stands .function, entry .pre .0 .ready .kept .table .contents .header .few)
 
 shared-slice-read-called : tie.Need-shared-slice-read-called
-shared-slice-read-called c = frame-start (c .before .before .before .before .before .before .before .before .before .before .before .args .words .now) (c .before .before .before .before .before .before .before .before .before .before .before .args .ws .now) _ (32 * c .before .before .before .before .before .before .before .before .before .before .before .args .top) (c .before .before .before .before .before .before .before .before .before .before .before .pre .0 .ready .kept .table) ((top (c .before .before .before .before .before .before .before .before .before .before .before .args .words .now) (c .before .before .before .before .before .before .before .before .before .before .before .args .ws .now) (c .before .before .before .before .before .before .before .before .before .before .before .args .locals .now) (c .before .before .before .before .before .before .before .before .before .before .before .args .plan) (c .before .before .before .before .before .before .before .before .before .before .before .args .s) (c .before .before .before .before .before .before .before .before .before .before .before .args .v) (c .before .before .before .before .before .before .before .before .before .before .before .args .top) 4 (c .before .before .before .before .before .before .before .before .before .before .before .pre .0)) .stands) (c .before .before .before .before .before .before .before .before .before .before .before .pre .2) _ _ (c .before .before .before .before .before .index .ensures) (c .before .before .before .index2 .ensures)
+shared-slice-read-called c = let entry = c .before .before .before .before .before .before .before .before .before .before .before in frame-start (entry .args .words .now) (entry .args .ws .now) _ (32 * entry .args .top) (entry .pre .0 .ready .kept .table) ((top (entry .args .words .now) (entry .args .ws .now) (entry .args .locals .now) (entry .args .plan) (entry .args .s) (entry .args .v) (entry .args .top) 4 (entry .pre .0)) .stands) (entry .pre .2) _ _ (c .before .before .before .before .before .index .ensures) (c .before .before .before .index2 .ensures)
 
 called-requires : tie.Need-called-requires
-called-requires c κs = frame-inside (c .before .before .before .before .before .before .before .before .before .before .before .args .words .now) (c .before .before .before .before .before .before .before .before .before .before .before .args .ws .now) _ (32 * c .before .before .before .before .before .before .before .before .before .before .before .args .top) (c .before .before .before .before .before .before .before .before .before .before .before .pre .0 .ready .kept .table) ((top (c .before .before .before .before .before .before .before .before .before .before .before .args .words .now) (c .before .before .before .before .before .before .before .before .before .before .before .args .ws .now) (c .before .before .before .before .before .before .before .before .before .before .before .args .locals .now) (c .before .before .before .before .before .before .before .before .before .before .before .args .plan) (c .before .before .before .before .before .before .before .before .before .before .before .args .s) (c .before .before .before .before .before .before .before .before .before .before .before .args .v) (c .before .before .before .before .before .before .before .before .before .before .before .args .top) 4 (c .before .before .before .before .before .before .before .before .before .before .before .pre .0)) .stands) (c .before .before .before .before .before .before .before .before .before .before .before .pre .2) _ _ (c .before .before .before .before .before .index .ensures) (c .before .before .before .index2 .ensures)
+called-requires c κs = let entry = c .before .before .before .before .before .before .before .before .before .before .before in frame-inside (entry .args .words .now) (entry .args .ws .now) _ (32 * entry .args .top) (entry .pre .0 .ready .kept .table) ((top (entry .args .words .now) (entry .args .ws .now) (entry .args .locals .now) (entry .args .plan) (entry .args .s) (entry .args .v) (entry .args .top) 4 (entry .pre .0)) .stands) (entry .pre .2) _ _ (c .before .before .before .before .before .index .ensures) (c .before .before .before .index2 .ensures)
 
 add-if1 : tie.Need-add-if1
-add-if1 c = omega (arith, few-here (c .before .before .before .before .before .before .before .before .before .before .before .before .args .words .now) (c .before .before .before .before .before .before .before .before .before .before .before .before .args .ws .now) (c .before .before .before .before .before .before .before .before .before .before .before .before .args .locals .now) (c .before .before .before .before .before .before .before .before .before .before .before .before .args .plan) (c .before .before .before .before .before .before .before .before .before .before .before .before .args .s) (c .before .before .before .before .before .before .before .before .before .before .before .before .args .v) (c .before .before .before .before .before .before .before .before .before .before .before .before .args .top) (c .before .before .before .before .before .before .before .before .before .before .before .before .pre .0) _ (c .before .before .index3 .ensures))
+add-if1 c = let entry = c .before .before .before .before .before .before .before .before .before .before .before .before in omega (arith, few-here (entry .args .words .now) (entry .args .ws .now) (entry .args .locals .now) (entry .args .plan) (entry .args .s) (entry .args .v) (entry .args .top) (entry .pre .0) _ (c .before .before .index3 .ensures))
 
 arity-requires : tie.Need-arity-requires
-arity-requires c κs = called-inside (c .before .before .before .before .before .before .before .before .before .before .before .before .args .words .now) (c .before .before .before .before .before .before .before .before .before .before .before .before .args .ws .now) (c .before .before .before .before .before .before .before .before .before .before .before .before .args .locals .now) (c .before .before .before .before .before .before .before .before .before .before .before .before .args .plan) (c .before .before .before .before .before .before .before .before .before .before .before .before .args .s) (c .before .before .before .before .before .before .before .before .before .before .before .before .args .v) (c .before .before .before .before .before .before .before .before .before .before .before .before .args .top) (c .before .before .before .before .before .before .before .before .before .before .before .before .pre .0) _ (c .before .before .before .before .before .before .before .before .before .before .before .before .pre .2) _ _ (c .before .before .before .before .before .before .index .ensures) (c .before .before .before .before .index2 .ensures) _ (c .called .ensures)
+arity-requires c κs = let entry = c .before .before .before .before .before .before .before .before .before .before .before .before in called-inside (entry .args .words .now) (entry .args .ws .now) (entry .args .locals .now) (entry .args .plan) (entry .args .s) (entry .args .v) (entry .args .top) (entry .pre .0) _ (entry .pre .2) _ _ (c .before .before .before .before .before .before .index .ensures) (c .before .before .before .before .index2 .ensures) _ (c .called .ensures)
 
 next-argument-requires : tie.Need-next-argument-requires
-next-argument-requires c κs = (c .before .before .before .before .before .before .before .before .before .before .before .before .before .before .before .before .pre .0, c .before .before .before .before .before .before .before .before .before .before .before .before .before .before .before .before .pre .1, c .before .before .before .before .before .before .before .before .before .before .before .before .before .before .before .before .pre .2, c .before .before .before .before .before .before .index3 .ensures, rw (c .before .before .before .arity .ensures, called-here (c .before .before .before .before .before .before .before .before .before .before .before .before .before .before .before .before .args .words .now) (c .before .before .before .before .before .before .before .before .before .before .before .before .before .before .before .before .args .ws .now) (c .before .before .before .before .before .before .before .before .before .before .before .before .before .before .before .before .args .locals .now) (c .before .before .before .before .before .before .before .before .before .before .before .before .before .before .before .before .args .plan) (c .before .before .before .before .before .before .before .before .before .before .before .before .before .before .before .before .args .s) (c .before .before .before .before .before .before .before .before .before .before .before .before .before .before .before .before .args .v) (c .before .before .before .before .before .before .before .before .before .before .before .before .before .before .before .before .args .top) (c .before .before .before .before .before .before .before .before .before .before .before .before .before .before .before .before .pre .0) _ (c .before .before .before .before .before .before .before .before .before .before .before .before .before .before .before .before .pre .2) _ _ (c .before .before .before .before .before .before .before .before .before .before .index .ensures) (c .before .before .before .before .before .before .before .before .index2 .ensures) _ (c .before .before .before .before .called .ensures)) at (c .before .before .if1 .taken))
+next-argument-requires c κs = let entry = c .before .before .before .before .before .before .before .before .before .before .before .before .before .before .before .before in (entry .pre .0, entry .pre .1, entry .pre .2, c .before .before .before .before .before .before .index3 .ensures, rw (c .before .before .before .arity .ensures, called-here (entry .args .words .now) (entry .args .ws .now) (entry .args .locals .now) (entry .args .plan) (entry .args .s) (entry .args .v) (entry .args .top) (entry .pre .0) _ (entry .pre .2) _ _ (c .before .before .before .before .before .before .before .before .before .before .index .ensures) (c .before .before .before .before .before .before .before .before .index2 .ensures) _ (c .before .before .before .before .called .ensures)) at (c .before .before .if1 .taken))
 
 last-argument-requires : tie.Need-last-argument-requires
-last-argument-requires c κs = (c .before .before .before .before .before .before .before .before .before .before .before .before .before .before .before .before .pre .0, c .before .before .before .before .before .before .before .before .before .before .before .before .before .before .before .before .pre .1, c .before .before .before .before .before .before .index3 .ensures, rw (c .before .before .before .arity .ensures) at (c .before .before .if1 .left), called-here (c .before .before .before .before .before .before .before .before .before .before .before .before .before .before .before .before .args .words .now) (c .before .before .before .before .before .before .before .before .before .before .before .before .before .before .before .before .args .ws .now) (c .before .before .before .before .before .before .before .before .before .before .before .before .before .before .before .before .args .locals .now) (c .before .before .before .before .before .before .before .before .before .before .before .before .before .before .before .before .args .plan) (c .before .before .before .before .before .before .before .before .before .before .before .before .before .before .before .before .args .s) (c .before .before .before .before .before .before .before .before .before .before .before .before .before .before .before .before .args .v) (c .before .before .before .before .before .before .before .before .before .before .before .before .before .before .before .before .args .top) (c .before .before .before .before .before .before .before .before .before .before .before .before .before .before .before .before .pre .0) _ (c .before .before .before .before .before .before .before .before .before .before .before .before .before .before .before .before .pre .2) _ _ (c .before .before .before .before .before .before .before .before .before .before .index .ensures) (c .before .before .before .before .before .before .before .before .index2 .ensures) _ (c .before .before .before .before .called .ensures))
+last-argument-requires c κs = let entry = c .before .before .before .before .before .before .before .before .before .before .before .before .before .before .before .before in (entry .pre .0, entry .pre .1, c .before .before .before .before .before .before .index3 .ensures, rw (c .before .before .before .arity .ensures) at (c .before .before .if1 .left), called-here (entry .args .words .now) (entry .args .ws .now) (entry .args .locals .now) (entry .args .plan) (entry .args .s) (entry .args .v) (entry .args .top) (entry .pre .0) _ (entry .pre .2) _ _ (c .before .before .before .before .before .before .before .before .before .before .index .ensures) (c .before .before .before .before .before .before .before .before .index2 .ensures) _ (c .before .before .before .before .called .ensures))
 
 same-length : tie.Need-same-length
 same-length c = search needs

@@ -6,16 +6,16 @@ use Rattle.moves.proofs.ret_condition.Statement.{statement}
 use Rattle.moves.proofs.ret_condition.Tie as tie
 
 child-requires : tie.Need-child-requires
-child-requires c κs = (sitting (c .before .before .before .before .before .args .words .now) (c .before .before .before .before .before .args .ws .now) (c .before .before .before .before .before .args .locals .now) (c .before .before .before .before .before .args .plan) (c .before .before .before .before .before .args .s) (c .before .before .before .before .before .args .v) (c .before .before .before .before .before .args .top) 2 (c .before .before .before .before .before .pre .0), c .before .before .before .before .before .pre .2)
+child-requires c κs = let entry = c .before .before .before .before .before in (sitting (entry .args .words .now) (entry .args .ws .now) (entry .args .locals .now) (entry .args .plan) (entry .args .s) (entry .args .v) (entry .args .top) 2 (entry .pre .0), entry .pre .2)
 
 tick-requires : tie.Need-tick-requires
-tick-requires c κs = let b = bounds (c .before .before .before .before .before .before .before .before .args .words .now) (c .before .before .before .before .before .before .before .before .args .ws .now) (c .before .before .before .before .before .before .before .before .args .locals .now) (c .before .before .before .before .before .before .before .before .args .plan) (c .before .before .before .before .before .before .before .before .args .s) (c .before .before .before .before .before .before .before .before .pre .0 .ready) in (b .0, b .1, b .2)
+tick-requires c κs = let entry = c .before .before .before .before .before .before .before .before in let b = bounds (entry .args .words .now) (entry .args .ws .now) (entry .args .locals .now) (entry .args .plan) (entry .args .s) (entry .pre .0 .ready) in (b .0, b .1, b .2)
 
 same-length : tie.Need-same-length
 same-length c = search needs
 
 returns : tie.Need-returns
-returns c = stepped-condition (c .before .before .before .before .before .before .before .before .before .args .words .now) (c .before .before .before .before .before .before .before .before .before .args .ws .now) (c .before .before .before .before .before .before .before .before .before .args .locals .now) (c .before .before .before .before .before .before .before .before .before .args .plan) (c .before .before .before .before .before .before .before .before .before .args .s) (c .before .before .before .before .before .before .before .before .before .args .v) (c .before .before .before .before .before .before .before .before .before .args .top) (c .before .before .before .before .before .before .before .before .before .pre .0) (c .before .before .before .before .before .before .before .before .before .pre .1) _ _ (c .before .before .before .child .ensures) _ (c .tick .ensures)
+returns c = let entry = c .before .before .before .before .before .before .before .before .before in stepped-condition (entry .args .words .now) (entry .args .ws .now) (entry .args .locals .now) (entry .args .plan) (entry .args .s) (entry .args .v) (entry .args .top) (entry .pre .0) (entry .pre .1) _ _ (c .before .before .before .child .ensures) _ (c .tick .ensures)
 
 pub ret-condition-spec : {M : Type 1} → statement M
 ret-condition-spec = tie.close (tie.spec child-requires tick-requires same-length returns)

@@ -9,10 +9,10 @@ none-requires : tie.Need-none-requires
 none-requires c κs = search needs
 
 turn-requires : tie.Need-turn-requires
-turn-requires c κs = room (c .before .before .before .before .before .before .args .words .now) (c .before .before .before .before .before .before .args .ws .now) (c .before .before .before .before .before .before .args .locals .now) (c .before .before .before .before .before .before .args .plan) (c .before .before .before .before .before .before .args .s) (c .before .before .before .before .before .before .args .v) (c .before .before .before .before .before .before .args .top) 5 (c .before .before .before .before .before .before .pre .0)
+turn-requires c κs = let entry = c .before .before .before .before .before .before in room (entry .args .words .now) (entry .args .ws .now) (entry .args .locals .now) (entry .args .plan) (entry .args .s) (entry .args .v) (entry .args .top) 5 (entry .pre .0)
 
 child-requires : tie.Need-child-requires
-child-requires c κs = (sitting-turned (c .before .before .before .before .before .before .before .before .before .before .before .args .words .now) (c .before .before .before .before .before .before .before .before .before .before .before .args .ws .now) (c .before .before .before .before .before .before .before .before .before .before .before .args .locals .now) (c .before .before .before .before .before .before .before .before .before .before .before .args .plan) (c .before .before .before .before .before .before .before .before .before .before .before .args .s) (c .before .before .before .before .before .before .before .before .before .before .before .args .v) (c .before .before .before .before .before .before .before .before .before .before .before .args .top) 5 (c .before .before .before .before .before .before .before .before .before .before .before .pre .0) 6 0 _ (c .before .before .before .before .turn .kept .0) (rw (c .before .before .before .before .before .none .ensures) at (c .before .before .before .before .turn .ensures)), c .before .before .before .before .before .before .before .before .before .before .before .pre .2)
+child-requires c κs = let entry = c .before .before .before .before .before .before .before .before .before .before .before in (sitting-turned (entry .args .words .now) (entry .args .ws .now) (entry .args .locals .now) (entry .args .plan) (entry .args .s) (entry .args .v) (entry .args .top) 5 (entry .pre .0) 6 0 _ (c .before .before .before .before .turn .kept .0) (rw (c .before .before .before .before .before .none .ensures) at (c .before .before .before .before .turn .ensures)), entry .pre .2)
 
 oldest-without-requires : tie.Need-oldest-without-requires
 oldest-without-requires c κs = search needs
@@ -21,7 +21,7 @@ add-tick : tie.Need-add-tick
 add-tick c = search needs
 
 tick-requires : tie.Need-tick-requires
-tick-requires c κs = let b = bounds (c .before .before .before .before .before .before .before .before .before .before .before .before .before .before .before .args .words .now) (c .before .before .before .before .before .before .before .before .before .before .before .before .before .before .before .args .ws .now) (c .before .before .before .before .before .before .before .before .before .before .before .before .before .before .before .args .locals .now) (c .before .before .before .before .before .before .before .before .before .before .before .before .before .before .before .args .plan) (c .before .before .before .before .before .before .before .before .before .before .before .before .before .before .before .args .s) (c .before .before .before .before .before .before .before .before .before .before .before .before .before .before .before .pre .0 .ready) in (b .0, b .1, b .2)
+tick-requires c κs = let entry = c .before .before .before .before .before .before .before .before .before .before .before .before .before .before .before in let b = bounds (entry .args .words .now) (entry .args .ws .now) (entry .args .locals .now) (entry .args .plan) (entry .args .s) (entry .pre .0 .ready) in (b .0, b .1, b .2)
 
 same-length : tie.Need-same-length
 same-length c = search needs
@@ -30,7 +30,7 @@ same-length-2 : tie.Need-same-length-2
 same-length-2 c = search needs
 
 returns : tie.Need-returns
-returns c = stepped-plain-left (c .before .before .before .before .before .before .before .before .before .before .before .before .before .before .before .before .args .words .now) (c .before .before .before .before .before .before .before .before .before .before .before .before .before .before .before .before .args .ws .now) (c .before .before .before .before .before .before .before .before .before .before .before .before .before .before .before .before .args .locals .now) (c .before .before .before .before .before .before .before .before .before .before .before .before .before .before .before .before .args .plan) (c .before .before .before .before .before .before .before .before .before .before .before .before .before .before .before .before .args .s) (c .before .before .before .before .before .before .before .before .before .before .before .before .before .before .before .before .args .v) (c .before .before .before .before .before .before .before .before .before .before .before .before .before .before .before .before .args .top) (c .before .before .before .before .before .before .before .before .before .before .before .before .before .before .before .before .pre .0) (c .before .before .before .before .before .before .before .before .before .before .before .before .before .before .before .before .pre .1) _ _ _ (c .before .before .before .before .before .before .before .before .before .turn .kept .0) (rw (c .before .before .before .before .before .before .before .before .before .before .none .ensures) at (c .before .before .before .before .before .before .before .before .before .turn .ensures)) (c .before .before .before .before .child .ensures) _ (c .before .oldest-without .ensures) _ (c .tick .ensures)
+returns c = let entry = c .before .before .before .before .before .before .before .before .before .before .before .before .before .before .before .before in stepped-plain-left (entry .args .words .now) (entry .args .ws .now) (entry .args .locals .now) (entry .args .plan) (entry .args .s) (entry .args .v) (entry .args .top) (entry .pre .0) (entry .pre .1) _ _ _ (c .before .before .before .before .before .before .before .before .before .turn .kept .0) (rw (c .before .before .before .before .before .before .before .before .before .before .none .ensures) at (c .before .before .before .before .before .before .before .before .before .turn .ensures)) (c .before .before .before .before .child .ensures) _ (c .before .oldest-without .ensures) _ (c .tick .ensures)
 
 pub ret-plain-left-spec : {M : Type 1} → statement M
 ret-plain-left-spec =

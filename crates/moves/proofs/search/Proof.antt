@@ -35,7 +35,7 @@ loop-less : tie.Need-loop-less Inv-loop μ-loop
 loop-less c = omega arith
 
 loop-again : tie.Need-loop-again Inv-loop μ-loop
-loop-again c = (omega arith, omega arith, found-more (c .before .before .before .before .args .ws .now) (c .before .before .before .before .args .from) (c .before .before .before .loop .i) (c .before .before .before .loop .inv .2) (c .if1 .left))
+loop-again c = let entry = c .before .before .before .before in (omega arith, omega arith, found-more (entry .args .ws .now) (entry .args .from) (c .before .before .before .loop .i) (c .before .before .before .loop .inv .2) (c .if1 .left))
 
 returns-2 : tie.Need-returns-2 Inv-loop μ-loop
 returns-2 c = record { after = omega arith; below = λ j a b d. c .before .loop .inv .2 j a (omega arith); is = λ h. absurd (omega arith); none = λ h. refl }

@@ -5,10 +5,10 @@ use Rattle.moves.proofs.turned.Statement.{statement}
 use Rattle.moves.proofs.turned.Tie as tie
 
 turn-requires : tie.Need-turn-requires
-turn-requires c κs = room (c .before .before .before .before .before .before .args .words .now) (c .before .before .before .before .before .before .args .ws .now) (c .before .before .before .before .before .before .args .locals .now) (c .before .before .before .before .before .before .args .plan) (c .before .before .before .before .before .before .args .s) (c .before .before .before .before .before .before .args .v) (c .before .before .before .before .before .before .args .top) 7 (c .before .before .before .before .before .before .pre .0)
+turn-requires c κs = let entry = c .before .before .before .before .before .before in room (entry .args .words .now) (entry .args .ws .now) (entry .args .locals .now) (entry .args .plan) (entry .args .s) (entry .args .v) (entry .args .top) 7 (entry .pre .0)
 
 child-requires : tie.Need-child-requires
-child-requires c κs = (sitting-turned (c .before .before .before .before .before .before .before .before .before .before .before .args .words .now) (c .before .before .before .before .before .before .before .before .before .before .before .args .ws .now) (c .before .before .before .before .before .before .before .before .before .before .before .args .locals .now) (c .before .before .before .before .before .before .before .before .before .before .before .args .plan) (c .before .before .before .before .before .before .before .before .before .before .before .args .s) (c .before .before .before .before .before .before .before .before .before .before .before .args .v) (c .before .before .before .before .before .before .before .before .before .before .before .args .top) 7 (c .before .before .before .before .before .before .before .before .before .before .before .pre .0) 8 _ _ (c .before .before .before .before .turn .kept .0) (c .before .before .before .before .turn .ensures), c .before .before .before .before .before .before .before .before .before .before .before .pre .1)
+child-requires c κs = let entry = c .before .before .before .before .before .before .before .before .before .before .before in (sitting-turned (entry .args .words .now) (entry .args .ws .now) (entry .args .locals .now) (entry .args .plan) (entry .args .s) (entry .args .v) (entry .args .top) 7 (entry .pre .0) 8 _ _ (c .before .before .before .before .turn .kept .0) (c .before .before .before .before .turn .ensures), entry .pre .1)
 
 add-restart : tie.Need-add-restart
 add-restart c = search needs
@@ -26,7 +26,7 @@ same-length-2 : tie.Need-same-length-2
 same-length-2 c = search needs
 
 returns : tie.Need-returns
-returns c = stepped-turn (c .before .before .before .before .before .before .before .before .before .before .before .before .before .before .before .before .args .words .now) (c .before .before .before .before .before .before .before .before .before .before .before .before .before .before .before .before .args .ws .now) (c .before .before .before .before .before .before .before .before .before .before .before .before .before .before .before .before .args .locals .now) (c .before .before .before .before .before .before .before .before .before .before .before .before .before .before .before .before .args .plan) (c .before .before .before .before .before .before .before .before .before .before .before .before .before .before .before .before .args .s) (c .before .before .before .before .before .before .before .before .before .before .before .before .before .before .before .before .args .v) (c .before .before .before .before .before .before .before .before .before .before .before .before .before .before .before .before .args .top) (c .before .before .before .before .before .before .before .before .before .before .before .before .before .before .before .before .pre .0) _ _ _ (c .before .before .before .before .before .before .before .before .before .turn .kept .0) (c .before .before .before .before .before .before .before .before .before .turn .ensures) (c .before .before .before .before .child .ensures) _ (rw (c .before .none .ensures) at (c .restart .ensures))
+returns c = let entry = c .before .before .before .before .before .before .before .before .before .before .before .before .before .before .before .before in stepped-turn (entry .args .words .now) (entry .args .ws .now) (entry .args .locals .now) (entry .args .plan) (entry .args .s) (entry .args .v) (entry .args .top) (entry .pre .0) _ _ _ (c .before .before .before .before .before .before .before .before .before .turn .kept .0) (c .before .before .before .before .before .before .before .before .before .turn .ensures) (c .before .before .before .before .child .ensures) _ (rw (c .before .none .ensures) at (c .restart .ensures))
 
 pub turned-spec : {M : Type 1} → statement M
 turned-spec =
