@@ -1,0 +1,102 @@
+-- The registers by one counter stand for those of the moves, and one step of the same machine keeps them.
+use Prim.Native.Nat.{ℕ, _+_, _-_, _≤_, _<_}
+use mathlib.Core.Path.{_≡_, refl, sym, ap, _∙_}
+use mathlib.Core.Bool.{Bool, true, false, cond, _&&_}
+use mathlib.Core.List.{List}
+use native.Mathlib.Omega.{arith}
+use native.Mathlib.Decide.{decLt}
+use lib.Dec.{ltb, leb}
+use borrow.Author.Tests.{lt-ltb, le-ltb, lt-leb, ltb-true, ltb-false}
+use Rattle.moves.specs.declared.Control.{Control}
+use Rattle.moves.specs.declared.Registers.{Registers}
+use Rattle.moves.specs.declared.Seat.{Seat}
+use Rattle.moves.specs.declared.Plan.{Plan}
+use Rattle.moves.specs.declared.Step.{Step}
+use Rattle.moves.specs.declared.Step.the-variants.{Go}
+use Rattle.moves.specs.Layout.{ticked, halted}
+use Rattle.moves.specs.Ready.{transited, Opened, dry, opens}
+use Rattle.compact.specs.declared.Compact.{Compact}
+use Rattle.compact.specs.declared.Progress.{Progress}
+use Rattle.compact.specs.Compact.{full, stepOf, limitOf, Paced, PacedBy, compactOf, keptOf, keptBy}
+
+-- THE LIMIT: not above the fuel, and where there is a fork, not above the start and a period
+limit-fuel : (plan : Plan) (since oldest : ℕ) → since ≤ plan .fuel .0 → limitOf plan since oldest ≤ plan .fuel .0
+unfolding limitOf
+limit-fuel plan since oldest h = on (ltb oldest 4096) (ltb (plan .period) (plan .fuel .0 - since)) refl
+  where
+    on : (a b : Bool) → ltb (plan .period) (plan .fuel .0 - since) ≡ b → cond a (cond b (since + plan .period) (plan .fuel .0)) (plan .fuel .0) ≤ plan .fuel .0
+    on false b e = omega arith
+    on true false e = omega arith
+    on true true e = omega (arith, ltb-true (plan .period) (plan .fuel .0 - since) e)
+
+limit-period : (plan : Plan) (since oldest : ℕ) → since ≤ plan .fuel .0 → oldest < 4096 → limitOf plan since oldest ≤ since + plan .period
+unfolding limitOf
+limit-period plan since oldest h o = rw (lt-ltb _ _ o) (on (ltb (plan .period) (plan .fuel .0 - since)) refl)
+  where
+    on : (b : Bool) → ltb (plan .period) (plan .fuel .0 - since) ≡ b → cond b (since + plan .period) (plan .fuel .0) ≤ since + plan .period
+    on false e = omega (arith, ltb-false (plan .period) (plan .fuel .0 - since) e)
+    on true e = omega arith
+
+-- REGISTERS MADE COMPACT stand for themselves
+module _ (plan : Plan) (s : Registers) (a : s .credits .0 ≤ s .transitions) (b : s .transitions ≤ plan .fuel .0) (c : s .credits .0 ≤ s .span .0) where
+  pub compact-full : full (compactOf plan s) ≡ s
+  compact-full =
+      let x : s .transitions - (s .transitions - s .credits .0) ≡ s .credits .0 = omega arith in
+      let y : s .span .0 - s .credits .0 + s .credits .0 ≡ s .span .0 = omega arith in
+      rw (x, y)
+
+  pub compact-paced : Paced plan (compactOf plan s)
+  compact-paced = record {
+    since = omega arith;
+    fuel = limit-fuel plan (s .transitions - s .credits .0) (s .oldest) (omega arith);
+    calm = limit-period plan (s .transitions - s .credits .0) (s .oldest) (omega arith);
+  }
+
+-- those of the same machine, a transition later
+module _ (plan : Plan) (g : Compact) (p : Paced plan g) (s : Registers) (a : s .credits .0 ≡ full g .credits .0 + 1) (b : s .span .0 ≡ full g .span .0 + 1)
+    (t : s .transitions ≡ g .transitions + 1) (o : s .oldest ≡ g .oldest) where
+  pub kept-full : full (keptOf g s) ≡ s
+  kept-full =
+      let x : s .transitions - g .since ≡ s .credits .0 = omega (arith, p .since) in
+      let y : g .before .0 + s .credits .0 ≡ s .span .0 = omega (arith, p .since) in
+      rw (x, y)
+
+  pub kept-paced : Paced plan (keptOf g s)
+  kept-paced = record { since = omega (arith, p .since); fuel = p .fuel; calm = λ h. p .calm (omega arith) }
+
+-- A FRAME IS OPENED, or none, by one step: what the moves tell of it, by the same machine
+module _ {plan : Plan} {g : Compact} (p : Paced plan g) {s : Registers} (e : s ≡ full g) {o : Step} {r : Progress} (u : r ≡ keptBy g o) where
+  pub kept-opened : {ws ws′ ls : List ℕ} {seat : Seat} {kind : ℕ} → Opened ws ws′ ls plan s seat kind (g .oldest) o
+      → Opened ws ws′ ls plan (full g) seat kind (g .oldest) (stepOf r) × PacedBy plan r
+  unfolding keptBy stepOf PacedBy
+  kept-opened {ws} {ws′} {ls} {seat} {kind} t = rw u (on (rw e at t))
+    where
+      on : Opened ws ws′ ls plan (full g) seat kind (g .oldest) o → Opened ws ws′ ls plan (full g) seat kind (g .oldest) (stepOf (keptBy g o)) × PacedBy plan (keptBy g o)
+      on (dry h c d) = rw d (dry h c refl, tt)
+      on (Opened.full h i c d) = rw d (Opened.full h i c refl, tt)
+      on (opens h i c d) = rw d (opens h i c (ap Go (kept-full plan g p _ refl refl refl refl)), kept-paced plan g p _ refl refl refl refl)
+
+  pub kept-transited : (seat : Seat) (to : Control) → o ≡ transited plan s seat to → (stepOf r ≡ transited plan (full g) seat to) × PacedBy plan r
+  unfolding keptBy stepOf PacedBy
+  kept-transited seat to t = rw (u, t, e) (on (ltb (g .transitions) (plan .fuel .0)))
+    where
+      after : Registers
+      after = ticked (full g) to (g .depth) (g .oldest)
+
+      on : (b : Bool) → (stepOf (keptBy g (cond b (Go after) (halted 20 (seat .function) (seat .node)))) ≡ cond b (Go after) (halted 20 (seat .function) (seat .node)))
+          × PacedBy plan (keptBy g (cond b (Go after) (halted 20 (seat .function) (seat .node))))
+      on true = (ap Go (kept-full plan g p after refl refl refl refl), kept-paced plan g p after refl refl refl refl)
+      on false = (refl, tt)
+
+-- NO PROMOTION IS DUE below the limit
+pub never-due : (plan : Plan) (g : Compact) → Paced plan g → g .depth ≤ 4096 → g .transitions < g .limit
+    → (leb (plan .period) (full g .credits .0) && ltb (g .oldest) (g .depth)) ≡ false
+never-due plan g p d h = on (decLt (g .oldest) 4096)
+  where
+    neither : (b : Bool) → (b && false) ≡ false
+    neither true = refl
+    neither false = refl
+
+    on : Dec (g .oldest < 4096) → (leb (plan .period) (full g .credits .0) && ltb (g .oldest) (g .depth)) ≡ false
+    on (yes l) = rw (lt-leb (plan .period) (full g .credits .0) (omega (arith, p .calm l, p .since)))
+    on (no l) = rw (le-ltb (g .oldest) (g .depth) (omega arith)) (neither (leb (plan .period) (full g .credits .0)))

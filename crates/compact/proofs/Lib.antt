@@ -1,0 +1,2 @@
+-- Laws about the registers by one counter.
+pub mod Keeping

@@ -1,0 +1,238 @@
+// The registers of a run by one counter, and single steps by them.
+
+use moves::Control;
+use moves::Plan;
+use moves::Registers;
+use moves::Seat;
+use moves::Step;
+use moves::Stopped;
+use schedule::Credits;
+use schedule::Span;
+ghost use mathlib.Core.Path.{_≡_};
+ghost use mathlib.Core.Bool.{true, _&&_};
+ghost use Prim.Native.Nat.{_+_, _<_, _≤_, _^_, max};
+ghost use lib.Dec.{ltb, leb};
+ghost use Rattle.schedule.specs.Stretch.{raise};
+ghost use Rattle.moves.specs.Ready.{Framed, transited, Opened};
+ghost use Rattle.compact.specs.Compact.{full, stepOf, limitOf, Paced, PacedBy, compactOf, settledOf, Settles, keptBy, laterOf, Small, Roomy};
+
+// The registers of a run by one counter. Credits and span are told by the transitions since the running machine's start.
+pub struct Compact {
+    pub control: Control,
+    // The frames that are occupied.
+    pub depth: usize,
+    // The oldest plain fork that awaits its left, or 4096.
+    pub oldest: usize,
+    pub transitions: u64,
+    // The transitions at the running machine's start, and its span then.
+    pub since: u64,
+    pub before: Span,
+    // Up to so many transitions there is fuel, and no promotion is due.
+    pub limit: u64,
+    pub forks: u64,
+    // The most frames that were occupied at once.
+    pub deepest: usize,
+}
+
+// What a stride comes to.
+pub enum Progress {
+    Go(Compact),
+    Value(u64),
+    Halt(Stopped),
+}
+
+pub fn higher(a: usize, b: usize) -> usize
+    ensures { λ r. ⌜ r ≡ max a b ⌝ }
+{
+    if b <= a { a } else { b }
+}
+
+// The most frames at once, after h more.
+fn raised(deepest: usize, depth: usize, h: usize) -> usize
+    requires { ⌜ (depth ≤ 4096) × (h ≤ 2) ⌝ }
+    ensures { λ r. ⌜ r ≡ raise deepest depth h ⌝ }
+{
+    if h == 0 {
+        deepest
+    } else {
+        higher(deepest, depth + h)
+    }
+}
+
+// The registers that compact ones stand for.
+pub fn expand(g: Compact) -> Registers
+    requires { ⌜ (g .since ≤ g .transitions) × (full g .span .0 < 2 ^ 60) ⌝ }
+    ensures { λ r. ⌜ r ≡ full g ⌝ }
+{
+    let control = g.control;
+    let before = g.before;
+    let made = g.transitions - g.since;
+    Registers {
+        control,
+        depth: g.depth,
+        oldest: g.oldest,
+        credits: Credits(made),
+        span: Span(before.0 + made),
+        transitions: g.transitions,
+        forks: g.forks,
+        deepest: g.deepest,
+    }
+}
+
+// The limit of a machine that started after so many transitions.
+fn limit_of(plan: Plan, since: u64, oldest: usize) -> u64
+    requires { ⌜ since ≤ plan .fuel .0 ⌝ }
+    ensures { λ r. ⌜ r ≡ limitOf plan since oldest ⌝ }
+{
+    let fuel = plan.fuel;
+    if oldest < moves::NO_FORK {
+        if plan.period < fuel.0 - since {
+            since + plan.period
+        } else {
+            fuel.0
+        }
+    } else {
+        fuel.0
+    }
+}
+
+// Registers made compact.
+fn pack(plan: Plan, s: Registers) -> Compact
+    requires { ⌜ (s .credits .0 ≤ s .transitions) × (s .transitions ≤ plan .fuel .0) × (s .credits .0 ≤ s .span .0) ⌝ }
+    ensures { λ r. ⌜ r ≡ compactOf plan s ⌝ }
+{
+    let control = s.control;
+    let credits = s.credits;
+    let span = s.span;
+    let since = s.transitions - credits.0;
+    let before = Span(span.0 - credits.0);
+    let limit = limit_of(plan, since, s.oldest);
+    Compact {
+        control,
+        depth: s.depth,
+        oldest: s.oldest,
+        transitions: s.transitions,
+        since,
+        before,
+        limit,
+        forks: s.forks,
+        deepest: s.deepest,
+    }
+}
+
+// A step's answer by compact registers.
+pub fn settle(plan: Plan, step: Step) -> Progress
+    requires { ⌜ Settles plan step ⌝ }
+    ensures { λ r. ⌜ r ≡ settledOf plan step ⌝ }
+{
+    match step {
+        Step::Go(s) => Progress::Go(pack(plan, s)),
+        Step::Value(v) => Progress::Value(v),
+        Step::Halt(h) => Progress::Halt(h),
+    }
+}
+
+// The same where the machine goes on and has the same oldest fork: its start and its limit are kept.
+fn keep(g: Compact, step: Step) -> Progress
+    ensures { λ r. ⌜ r ≡ keptBy g step ⌝ }
+{
+    match step {
+        Step::Go(s) => {
+            let control = s.control;
+            let before = g.before;
+            Progress::Go(Compact {
+                control,
+                depth: s.depth,
+                oldest: s.oldest,
+                transitions: s.transitions,
+                since: g.since,
+                before,
+                limit: g.limit,
+                forks: s.forks,
+                deepest: s.deepest,
+            })
+        }
+        Step::Value(v) => Progress::Value(v),
+        Step::Halt(h) => Progress::Halt(h),
+    }
+}
+
+// Can an operand of k transitions and so many more be made, with h frames more at once? An operand of 0 is not simple.
+pub fn fits(g: Compact, frames: usize, k: u64, more: u64, h: usize) -> bool
+    requires { ⌜ (Small g) × (k ≤ 1000) × (more ≤ 1000) × (h ≤ 2) ⌝ }
+    ensures { λ r. ⌜ (r ≡ true → (0 < k) × Roomy g frames (k + more) h) ⌝ }
+{
+    if k == 0 {
+        false
+    } else if g.transitions + (k + more) <= g.limit {
+        g.depth + h <= frames
+    } else {
+        false
+    }
+}
+
+// The registers k transitions later.
+pub fn later(g: Compact, control: Control, depth: usize, k: u64, h: usize) -> Compact
+    requires { ⌜ (Small g) × (k ≤ 1000) × (h ≤ 2) ⌝ }
+    ensures { λ r. ⌜ r ≡ laterOf g control depth k h ⌝ }
+{
+    let before = g.before;
+    let deepest = raised(g.deepest, g.depth, h);
+    let transitions = g.transitions + k;
+    Compact {
+        control,
+        depth,
+        oldest: g.oldest,
+        transitions,
+        since: g.since,
+        before,
+        limit: g.limit,
+        forks: g.forks,
+        deepest,
+    }
+}
+
+// Nothing comes of a stride.
+pub fn none() -> Progress
+    ensures { λ r. ⌜ r ≡ Progress.Value 0 ⌝ }
+{
+    Progress::Value(0)
+}
+
+// A frame is opened, by one step.
+pub fn open(
+    ws: &mut [u64],
+    locals: &[u64],
+    plan: Plan,
+    g: Compact,
+    seat: Seat,
+    kind: u64,
+) -> Progress
+    requires { ⌜ (Framed (now ws) (now locals) (full g) seat) × (Paced plan g) ⌝ }
+    ensures { λ r. ⌜ (Opened (now (ws .entry)) (now (ws .exit)) (now (locals .entry)) plan (full g) seat kind (g .oldest) (stepOf r)) × (PacedBy plan r) ⌝ }
+{
+    let step = moves::open(ws, locals, plan, expand(g), seat, kind, g.oldest);
+    keep(g, step)
+}
+
+// One step that opens no frame.
+pub fn transit(plan: Plan, g: Compact, seat: Seat, control: Control) -> Progress
+    requires { ⌜ (Small g) × (full g .credits .0 < 2 ^ 60) × (full g .span .0 < 2 ^ 60) × (Paced plan g) ⌝ }
+    ensures { λ r. ⌜ (stepOf r ≡ transited plan (full g) seat control) × (PacedBy plan r) ⌝ }
+{
+    let step = moves::transit(plan, expand(g), seat, control);
+    keep(g, step)
+}
+
+// Whether a promotion is due: none is below the limit.
+pub fn due(plan: Plan, g: Compact) -> bool
+    requires { ⌜ (Paced plan g) × (g .depth ≤ 4096) ⌝ }
+    ensures { λ r. ⌜ r ≡ (leb (plan .period) (full g .credits .0) && ltb (g .oldest) (g .depth)) ⌝ }
+{
+    if g.transitions < g.limit {
+        false
+    } else {
+        let credits = Credits(g.transitions - g.since);
+        moves::due(plan.period, credits, g.oldest, g.depth)
+    }
+}

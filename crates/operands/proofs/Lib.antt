@@ -1,0 +1,3 @@
+-- Laws about simple operands.
+pub mod Leading
+pub mod Operands

@@ -1,0 +1,2 @@
+-- Simple operands by their words.
+pub mod Operands

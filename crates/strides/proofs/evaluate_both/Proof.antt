@@ -1,0 +1,31 @@
+-- `strides::evaluate_both` meets its contract, by the laws of Settling.
+use mathlib.Core.Path.{refl}
+use Rattle.strides.proofs.Settling.{move-settles, move-strides, site-framed, both-stepped}
+use borrow.Author.Needs.{needs}
+use Rattle.strides.proofs.evaluate_both.Statement.{statement}
+use Rattle.strides.proofs.evaluate_both.Tie as tie
+
+expand-requires : tie.Need-expand-requires
+expand-requires c κs = search needs
+
+evaluate-both-requires : tie.Need-evaluate-both-requires
+evaluate-both-requires c κs = rw (c .expand .ensures) (site-framed (c .before .before .before .before .before .pre))
+
+settle-requires : tie.Need-settle-requires
+settle-requires c κs =
+    let s = c .before .before .before .before .before .before .before .before in
+    let u = rw (c .before .before .before .expand .ensures) at (c .before .before .evaluate-both .ensures) in
+    move-settles (s .args .words .now) (s .args .ws .now) (s .args .locals .now) (s .args .plan) (s .args .g) (s .pre .calm) _ _ _ (both-stepped (s .pre) refl _ (c .before .before .evaluate-both .kept .0) u)
+
+same-length : tie.Need-same-length
+same-length c = search needs
+
+returns : tie.Need-returns
+returns c =
+    let s = c .before .before .before .before .before .before .before .before .before in
+    let u = rw (c .before .before .before .before .expand .ensures) at (c .before .before .before .evaluate-both .ensures) in
+    move-strides (s .args .words .now) (s .args .ws .now) (s .args .locals .now) (s .args .plan) (s .args .g) (s .pre .calm) _ _ _ (both-stepped (s .pre) refl _ (c .before .before .before .evaluate-both .kept .0) u) _ (c .settle .ensures)
+
+pub evaluate-both-spec : {M : Type 1} → statement M
+evaluate-both-spec =
+    tie.close (tie.spec expand-requires evaluate-both-requires settle-requires same-length returns)

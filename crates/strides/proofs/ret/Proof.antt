@@ -1,0 +1,125 @@
+-- `strides::ret` meets its contract, by the laws of Striding, Settling.
+use mathlib.Core.Path.{refl, sym, _∙_}
+use native.Mathlib.Omega.{arith}
+use borrow.Author.Tests.{ltb-true, ltb-false}
+use Rattle.strides.proofs.Striding.{returned, done-strides}
+use Rattle.strides.proofs.Settling.{move-strides}
+use Rattle.compact.specs.Compact.{full, Settles}
+use Rattle.moves.proofs.Returning.{stepped-dry}
+use borrow.Author.Needs.{needs}
+use Rattle.strides.proofs.ret.Statement.{statement}
+use Rattle.strides.proofs.ret.Tie as tie
+
+sub-top : tie.Need-sub-top
+sub-top c = search needs
+
+mul-kind : tie.Need-mul-kind
+mul-kind c = search needs
+
+mul-kind-2 : tie.Need-mul-kind-2
+mul-kind-2 c = search needs
+
+slice-read-kind : tie.Need-slice-read-kind
+slice-read-kind c = search needs
+
+arrive-requires : tie.Need-arrive-requires
+arrive-requires c κs = let p = c .before .before .before .before .before .before .before .before .before .before in (record { calm = p .pre .0; is = p .pre .1; depth = omega arith; of-kind = refl }, c .before .before .if2 .taken, p .pre .2)
+
+allows-requires : tie.Need-allows-requires
+allows-requires c κs = search needs
+
+ret-paid-requires : tie.Need-ret-paid-requires
+ret-paid-requires c κs = let p = c .before .before .before .before .before .before .before .before .before .before .before .before in (record { calm = p .pre .0; is = p .pre .1; depth = omega arith; of-kind = refl }, omega arith, ltb-true _ _ (sym (c .before .before .before .allows .ensures) ∙ c .before .before .if3 .taken), p .pre .2)
+
+mul-index : tie.Need-mul-index
+mul-index c = search needs
+
+add-index : tie.Need-add-index
+add-index c = search needs
+
+mul-index-2 : tie.Need-mul-index-2
+mul-index-2 c = search needs
+
+slice-read-index : tie.Need-slice-read-index
+slice-read-index c = search needs
+
+index-requires : tie.Need-index-requires
+index-requires c κs = search needs
+
+mul-index-3 : tie.Need-mul-index-3
+mul-index-3 c = search needs
+
+add-index-2 : tie.Need-add-index-2
+add-index-2 c = search needs
+
+mul-index-4 : tie.Need-mul-index-4
+mul-index-4 c = search needs
+
+slice-read-index-2 : tie.Need-slice-read-index-2
+slice-read-index-2 c = search needs
+
+index-requires-2 : tie.Need-index-requires-2
+index-requires-2 c κs = search needs
+
+halt-requires : tie.Need-halt-requires
+halt-requires c κs = search needs
+
+settle-requires : tie.Need-settle-requires
+unfolding Settles
+settle-requires c κs = rw (c .halt .ensures) tt
+
+returns : tie.Need-returns
+returns c = let p = c .before .before .before .before .before in done-strides (p .args .words .now) (p .args .ws .now) (p .args .locals .now) (p .args .plan) (p .args .g) (p .pre .0) _ (p .pre .1) (c .if1 .taken)
+
+same-length : tie.Need-same-length
+same-length c = search needs
+
+same-length-2 : tie.Need-same-length-2
+same-length-2 c = search needs
+
+returns-2 : tie.Need-returns-2
+returns-2 c = search needs
+
+same-length-3 : tie.Need-same-length-3
+same-length-3 c = search needs
+
+same-length-4 : tie.Need-same-length-4
+same-length-4 c = search needs
+
+returns-3 : tie.Need-returns-3
+returns-3 c = search needs
+
+returns-4 : tie.Need-returns-4
+returns-4 c = let p = c .before .before .before .before .before .before .before .before .before .before .before .before .before .before .before .before in move-strides (p .args .words .now) (p .args .ws .now) (p .args .locals .now) (p .args .plan) (p .args .g) (p .pre .0) _ _ _ (stepped-dry (p .args .words .now) (p .args .ws .now) (p .args .locals .now) (p .args .plan) (full (p .args .g)) (p .args .v) _ _ (returned (p .args .words .now) (p .args .ws .now) (p .args .locals .now) (p .args .plan) (p .args .g) (p .args .v) _ _ (record { calm = p .pre .0; is = p .pre .1; depth = omega arith; of-kind = refl })) (ltb-false _ _ (sym (c .before .before .before .before .before .before .before .allows .ensures) ∙ c .before .before .before .before .before .before .if3 .left)) (omega arith) _ _ (c .before .before .before .before .index .ensures) (c .before .before .index2 .ensures) _ (c .before .halt .ensures)) _ (c .settle .ensures)
+
+pub ret-spec : {M : Type 1} → statement M
+ret-spec =
+    tie.close
+    (tie.spec
+    sub-top
+    mul-kind
+    mul-kind-2
+    slice-read-kind
+    arrive-requires
+    allows-requires
+    ret-paid-requires
+    mul-index
+    add-index
+    mul-index-2
+    slice-read-index
+    index-requires
+    mul-index-3
+    add-index-2
+    mul-index-4
+    slice-read-index-2
+    index-requires-2
+    halt-requires
+    settle-requires
+    returns
+    same-length
+    same-length-2
+    returns-2
+    same-length-3
+    same-length-4
+    returns-3
+    returns-4)

@@ -1,0 +1,2 @@
+-- What a stride tells.
+pub mod Strides

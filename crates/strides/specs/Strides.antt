@@ -1,0 +1,143 @@
+-- What a stride tells: it is one step of the definition, or several at once. And what the functions under it tell.
+use Prim.Native.Nat.{ℕ, _+_, _*_, _/_, _≤_, _<_}
+use mathlib.Core.Path.{_≡_}
+use mathlib.Core.Bool.{false, _&&_}
+use mathlib.Core.List.{List}
+use lib.ListN.{length, getD, take}
+use lib.Dec.{ltb, leb}
+use Rattle.schedule.specs.FrameMachine.{return}
+use Rattle.schedule.specs.Algebra.{spans}
+use Rattle.schedule.specs.Machine.{ongoing}
+use Rattle.schedule.specs.Runs.{run}
+use Rattle.schedule.specs.Bounds.{step-by}
+use Rattle.schedule.specs.Stretch.{Leads, Through}
+use Rattle.table.specs.Words.{startOf, tagAt}
+use Rattle.table.specs.WellFormed.{WellFormed}
+use Rattle.frames.specs.Frames.{pushed, turned}
+use Rattle.language.specs.Language.{Code, left-operand, language}
+use Rattle.moves.specs.declared.Control.{Control}
+use Rattle.moves.specs.declared.Control.the-variants.{Eval, Ret}
+use Rattle.moves.specs.declared.Registers.{Registers}
+use Rattle.moves.specs.declared.Plan.{Plan}
+use Rattle.moves.specs.declared.Seat.{Seat}
+use Rattle.moves.specs.declared.Step.{Step}
+use Rattle.moves.specs.declared.Step.the-variants as step
+use Rattle.moves.specs.Layout.{codeAt, controlOf, stateOf}
+use Rattle.moves.specs.Ready.{Stands, Controlled, Kept, Ready, Returns, Operand, Advanced}
+use Rattle.compact.specs.declared.Compact.{Compact}
+use Rattle.compact.specs.declared.Progress.{Progress}
+use Rattle.compact.specs.declared.Progress.the-variants.{Go, Value, Halt}
+use Rattle.compact.specs.Compact.{full, stepOf, Paced, PacedBy, laterOf, Small, Roomy}
+use Rattle.operands.specs.Operands.{framesOf}
+
+-- SEVERAL STEPS of the definition, from the state that the words held to the one that they hold
+pub record Many (w ws ls : List ℕ) (plan : Plan) (s : Registers) (ws′ ls′ : List ℕ) (next : Registers) : Type 0 where
+  pub more : ℕ
+  pub same : run (step-by (spans (plan .tau)) (language w) (plan .fuel .0) (length ws / 32) (plan .birth) (plan .period)) (more + 1) (stateOf w (plan .tau) ws ls s) ≡ ongoing (stateOf w (plan .tau) ws′ ls′ next)
+  pub kept : Kept w ws′ ls′ (plan .birth) (next .control) (next .depth) (next .oldest)
+
+-- A STRIDE: one step, or several
+pub data Strode (w ws ls : List ℕ) (plan : Plan) (s : Registers) (ws′ ls′ : List ℕ) (r : Step) : Type 0 where
+  one : Advanced w ws ls plan s ws′ ls′ r → Strode w ws ls plan s ws′ ls′ r
+  many : (next : Registers) → r ≡ step.Go next → Many w ws ls plan s ws′ ls′ next → Strode w ws ls plan s ws′ ls′ r
+
+-- by compact registers
+pub record Strides (w ws ls : List ℕ) (plan : Plan) (g : Compact) (ws′ ls′ : List ℕ) (r : Progress) : Type 0 where
+  pub strode : Strode w ws ls plan (full g) ws′ ls′ (stepOf r)
+  pub paced : PacedBy plan r
+
+-- what a stride starts from
+pub record Starts (w ws ls : List ℕ) (plan : Plan) (g : Compact) : Type 0 where
+  pub ready : Ready w ws ls plan (full g)
+  pub paced : Paced plan g
+
+-- with no promotion due
+pub record Calm (w ws ls : List ℕ) (plan : Plan) (g : Compact) : Type 0 where
+  pub starts : Starts w ws ls plan g
+  pub not-due : (leb (plan .period) (full g .credits .0) && ltb (g .oldest) (g .depth)) ≡ false
+
+-- A NODE that is evaluated, at the word `at` of the body that begins at `start`
+pub record Site (w ls : List ℕ) (g : Compact) (seat : Seat) (start at : ℕ) : Type 0 where
+  pub table : WellFormed w
+  pub stands : Stands w (seat .function) (seat .node) (seat .count)
+  pub place : start ≡ startOf w (seat .function)
+  pub word : at ≡ start + 4 * seat .node
+  pub sixteen : length ls ≡ 16
+  pub small : Small g
+
+-- of a tag
+pub record Tagged (w ls : List ℕ) (g : Compact) (seat : Seat) (start at tag : ℕ) : Type 0 where
+  pub site : Site w ls g seat start at
+  pub is : getD w at 0 ≡ tag
+
+pub record Evaluating (w ws ls : List ℕ) (plan : Plan) (g : Compact) (seat : Seat) (start at tag : ℕ) : Type 0 where
+  pub calm : Calm w ws ls plan g
+  pub is : g .control ≡ Eval (seat .function) (seat .node) (seat .count)
+  pub place : start ≡ startOf w (seat .function)
+  pub word : at ≡ start + 4 * seat .node
+  pub tagged : getD w at 0 ≡ tag
+
+abbrev pub codeOf : Seat → ℕ → List ℕ → Code
+codeOf seat p ls = record { function = seat .function; node = p; locals = take (seat .count) ls }
+
+-- WHAT A NODE LEADS TO, with no frame written
+pub record Jump (w ls : List ℕ) (frames : ℕ) (g : Compact) (seat : Seat) (ls′ : List ℕ) (next : Compact) : Type 0 where
+  pub to : Control
+  pub more : ℕ
+  pub most : ℕ
+  pub is : next ≡ laterOf g to (g .depth) (more + 1) most
+  pub leads : Leads (language w) (codeOf seat (seat .node) ls) (controlOf to ls′) (more + 1) most
+  pub room : Roomy g frames (more + 1) most
+  pub stands : Controlled w to
+  pub sixteen : length ls′ ≡ 16
+
+-- or nothing comes of it
+unfoldable pub Jumps : (w ls : List ℕ) (frames : ℕ) (g : Compact) (seat : Seat) (ls′ : List ℕ) → Progress → Type 0
+Jumps w ls frames g seat ls′ (Go next) = Jump w ls frames g seat ls′ next
+Jumps w ls frames g seat ls′ (Value v) = ls′ ≡ ls
+Jumps w ls frames g seat ls′ (Halt h) = ls′ ≡ ls
+
+-- AN ARITHMETIC'S FRAME WITH ITS LEFT OPERAND x, which has its value by k transitions and so many frames: the right operand at q is next
+pub record Half (w ws ls : List ℕ) (g : Compact) (seat : Seat) (ws′ : List ℕ) (next : Compact) : Type 0 where
+  pub left : ℕ
+  pub cost : ℕ
+  pub most : ℕ
+  pub right : ℕ
+  pub is : next ≡ laterOf g (Eval (seat .function) right (seat .count)) (g .depth + 1) (cost + 2) (most + 1)
+  pub first : Leads (language w) (codeOf seat (seat .node + 1) ls) (return left) cost most
+  pub second : right ≡ getD w (startOf w (seat .function) + 4 * seat .node + 2) 0
+  pub room : Roomy g (length ws / 32) (cost + 2) (most + 1)
+  pub words : ws′ ≡ turned (pushed ws (g .depth) 1 (seat .function) (seat .node) (seat .count) ls 0) (g .depth) 1 left 0
+
+-- an arithmetic whose left operand is simple: both operands, or its frame with the left one
+pub data Paired (w ws ls : List ℕ) (g : Compact) (seat : Seat) (ws′ : List ℕ) (r : Progress) : Type 0 where
+  whole : (next : Compact) → r ≡ Go next → ws′ ≡ ws → Jump w ls (length ws / 32) g seat ls next → Paired w ws ls g seat ws′ r
+  half : (next : Compact) → r ≡ Go next → Half w ws ls g seat ws′ next → Paired w ws ls g seat ws′ r
+  neither : ((next : Compact) → r ≡ Go next → ⊥) → ws′ ≡ ws → Paired w ws ls g seat ws′ r
+
+-- its first child has the value x by k transitions
+pub record Led (w ls : List ℕ) (seat : Seat) (x k : ℕ) : Type 0 where
+  pub some : 0 < k
+  pub few : k ≤ 5
+  pub first : Leads (language w) (codeOf seat (seat .node + 1) ls) (return x) k (framesOf k)
+
+-- WHAT A VALUE LEADS TO at the arithmetic frame `top`, with the frame closed, or nothing comes of it
+pub record Rebound (w ws : List ℕ) (g : Compact) (v top : ℕ) (next : Compact) : Type 0 where
+  pub value : ℕ
+  pub more : ℕ
+  pub most : ℕ
+  pub is : next ≡ laterOf g (Ret value) top (more + 1) most
+  pub through : Through (language w) (left-operand (codeAt ws (32 * top))) v (return value) (more + 1) most
+  pub room : Roomy g (length ws / 32) (more + 1) most
+
+unfoldable pub Rebounds : (w ws : List ℕ) (g : Compact) (v top : ℕ) → Progress → Type 0
+Rebounds w ws g v top (Go next) = Rebound w ws g v top next
+Rebounds w ws g v top (Value x) = Unit {0}
+Rebounds w ws g v top (Halt h) = Unit {0}
+
+-- a value returns to the frame `top` of a kind
+pub record Returning (w ws ls : List ℕ) (plan : Plan) (g : Compact) (v top kind : ℕ) : Type 0 where
+  pub calm : Calm w ws ls plan g
+  pub is : g .control ≡ Ret v
+  pub depth : g .depth ≡ top + 1
+  pub of-kind : getD ws (32 * top) 0 ≡ kind
