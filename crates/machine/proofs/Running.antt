@@ -1,21 +1,23 @@
 -- The loop of a run: what it keeps true from its start to its end.
 --     running-first      at the start
+--     running-expands    its registers can be expanded
 --     running-counts     the counts are small enough for the work's sum
---     running-less       a move makes the measure smaller
+--     running-less       a stride makes the measure smaller
 --     running-next       and keeps the invariant
 --     running-ends       at the end the answer is the definition's
-use Prim.Native.Nat.{ℕ, _+_, _-_, _*_, _/_, _<_, _≤_, zero-le}
+use Prim.Native.Nat.{ℕ, _+_, _-_, _*_, _/_, _<_, _≤_, _^_, zero-le}
 use mathlib.Core.Path.{_≡_, refl, sym, ap, _∙_}
 use mathlib.Core.Logic.{_⊎_, inl, inr}
 use mathlib.Core.List.{List}
 use native.Mathlib.Omega.{arith}
 use lib.ListN.{length, take, replicate}
 use Rattle.schedule.specs.Algebra.{spans}
-use Rattle.schedule.specs.Machine.{Schedule, step, start}
+use Rattle.schedule.specs.Machine.{ongoing, Schedule, step, start}
 use Rattle.schedule.specs.Runs.{and-then, outcome}
 use Rattle.schedule.specs.Runs as schedule
-use Rattle.schedule.specs.Bounds.{step-by, Flags, measure-of, BoundedState, Advances}
-use Rattle.schedule.proofs.Bounds.{step-by-advances, start-bounded, start-measure, flags-are}
+use Rattle.schedule.specs.Bounds.{step-by, Flags, measure-of, BoundedState}
+use Rattle.schedule.proofs.Bounds.{start-bounded, start-measure, flags-are}
+use Rattle.schedule.proofs.Stretch.{first-then, run-then, steps-advance, steps-same}
 use Rattle.schedule.proofs.Runs.{run-next}
 use Rattle.table.specs.Words.{nodesAt}
 use Rattle.language.specs.declared.Answer.{Answer}
@@ -27,6 +29,12 @@ use Rattle.moves.specs.declared.Step.{Step}
 use Rattle.moves.specs.declared.Step.the-variants.{Go, Value, Halt}
 use Rattle.moves.specs.Layout.{stackOf, controlOf, stateOf, resultOf}
 use Rattle.moves.specs.Ready.{Held, Controlled, Ready, KeptBy, Advanced}
+use Rattle.moves.proofs.Steps.{bounds}
+use Rattle.compact.specs.declared.Compact.{Compact}
+use Rattle.compact.specs.declared.Progress.{Progress}
+use Rattle.compact.specs.declared.Progress.the-variants as progress
+use Rattle.compact.specs.Compact.{full, stepOf, limitOf, Paced, PacedBy, compactOf}
+use Rattle.strides.specs.Strides.{Many, Strode, one, many, Strides, Starts}
 use Rattle.machine.specs.Workspace.{leftBy}
 use Rattle.machine.specs.Runs.{begun, toldAt, Countable, Begins, Ran}
 
@@ -40,100 +48,138 @@ abbrev pub to-go : List ℕ → ℕ → Plan → List ℕ → List ℕ → Regis
 to-go w size plan ws ls s = measure-of (spans (plan .tau)) (language w) (plan .fuel .0) (size / 32) (stateOf w (plan .tau) ws ls s)
 
 -- THE LOOP'S INVARIANT: with enough moves left, the run from the state that the words hold ends as the whole run does
-pub record Running (w arguments : List ℕ) (size : ℕ) (plan : Plan) (ws ls : List ℕ) (s : Registers) : Type 0 where
+pub record Running (w arguments : List ℕ) (size : ℕ) (plan : Plan) (ws ls : List ℕ) (g : Compact) : Type 0 where
   pub long : length ws ≡ size
-  pub ready : Ready w ws ls plan s
+  pub starts : Starts w ws ls plan g
   pub left : ℕ
-  pub enough : to-go w size plan ws ls s ≤ left
+  pub enough : to-go w size plan ws ls (full g) ≤ left
   pub course : (m : Schedule) → Flags (plan .fuel .0) m (plan .birth) (plan .period)
-      → schedule.run (step (spans (plan .tau)) (language w) (plan .fuel .0) (size / 32) m) (left + 1) (stateOf w (plan .tau) ws ls s)
+      → schedule.run (step (spans (plan .tau)) (language w) (plan .fuel .0) (size / 32) m) (left + 1) (stateOf w (plan .tau) ws ls (full g))
       ≡ outcome (spans (plan .tau)) (language w) (plan .fuel .0) (size / 32) m (entryCode arguments)
 
-pub running-first : (w ws ls : List ℕ) (plan : Plan) (count : ℕ) → Begins w ws ls plan count → (s : Registers) → s ≡ begun count
-    → Running w (take count ls) (length ws) plan ws ls s
-unfolding stackOf controlOf Held Controlled BoundedState start outcome
-running-first w ws ls plan count b s u =
+pub running-first : {w ws ls : List ℕ} {plan : Plan} {count : ℕ} {g : Compact} → Begins w ws ls plan count → g ≡ compactOf plan (begun count)
+    → Running w (take count ls) (length ws) plan ws ls g
+unfolding stackOf controlOf Held Controlled BoundedState start outcome limitOf
+running-first {w} {ws} {ls} {plan} {count} b u =
     let few = b .table .contents .header .some in
     rw u (record {
       long = refl;
-      ready = record {
-        kept = record {
-          table = b .table;
-          sixteen = b .sixteen;
-          room = zero-le;
-          held = tt;
-          control = record {
-            function = few;
-            few = omega (arith, b .table .contents .entries 0 few);
-            level = 1;
-            after = nodesAt w 0;
-            tree = rw (b .arguments) (b .table .trees 0 few);
+      starts = record {
+        ready = record {
+          kept = record {
+            table = b .table;
+            sixteen = b .sixteen;
+            room = zero-le;
+            held = tt;
+            control = record {
+              function = few;
+              few = omega (arith, b .table .contents .entries 0 few);
+              level = 1;
+              after = nodesAt w 0;
+              tree = rw (b .arguments) (b .table .trees 0 few);
+            };
+            oldest = record {
+              below = λ j h. absurd (omega arith);
+              is = λ h. absurd (omega arith);
+              none = λ h. refl;
+              past = λ j h. absurd (omega arith);
+            };
+            born = λ h. refl;
           };
-          oldest = record {
-            below = λ j h. absurd (omega arith);
-            is = λ h. absurd (omega arith);
-            none = λ h. refl;
-            past = λ j h. absurd (omega arith);
-          };
-          born = λ h. refl;
+          limits = b .limits;
+          bounded = start-bounded (plan .tau) (language w) (plan .fuel .0) (length ws / 32) (entryCode (take count ls));
         };
-        limits = b .limits;
-        bounded = start-bounded (plan .tau) (language w) (plan .fuel .0) (length ws / 32) (entryCode (take count ls));
+        paced = record { since = zero-le; fuel = omega arith; calm = λ h. absurd (omega arith) };
       };
       left = 5 * plan .fuel .0 + length ws / 32;
       enough = omega (arith, start-measure (plan .tau) (language w) (plan .fuel .0) (length ws / 32) (entryCode (take count ls)));
       course = λ m h. refl;
     })
 
-module _ (w arguments : List ℕ) (size : ℕ) (plan : Plan) (ws ls : List ℕ) (s : Registers) (r : Running w arguments size plan ws ls s) where
+module _ {w arguments : List ℕ} {size : ℕ} {plan : Plan} {ws ls : List ℕ} {g : Compact} (r : Running w arguments size plan ws ls g) where
+  abbrev s : Registers
+  s = full g
+
+  abbrev ready : Ready w ws ls plan s
+  ready = r .starts .ready
+
+  pub running-expands : (g .since ≤ g .transitions) × (s .span .0 < 2 ^ 60)
+  running-expands = (r .starts .paced .since, bounds w ws ls plan s ready .1)
+
   pub running-counts : Countable plan s
   running-counts = record {
-    transitions = omega (arith, r .ready .bounded .within-fuel, r .ready .limits .fuel);
-    tau = r .ready .limits .tau;
-    forks = omega (arith, r .ready .bounded .forks, r .ready .limits .fuel, r .ready .limits .frames);
+    transitions = omega (arith, ready .bounded .within-fuel, ready .limits .fuel);
+    tau = ready .limits .tau;
+    forks = omega (arith, ready .bounded .forks, ready .limits .fuel, ready .limits .frames);
   }
 
   bounded : BoundedState (plan .tau) (language w) (plan .fuel .0) (size / 32) (stateOf w (plan .tau) ws ls s)
   unfolding BoundedState
-  bounded = rw (r .long) at (r .ready .bounded)
+  bounded = rw (r .long) at (ready .bounded)
 
-  module _ (ws′ ls′ : List ℕ) (o : Step) (g : Advanced w ws ls plan s ws′ ls′ o) where
-    moved : step-by (spans (plan .tau)) (language w) (plan .fuel .0) (size / 32) (plan .birth) (plan .period) (stateOf w (plan .tau) ws ls s)
+  -- SEVERAL MOVES lead to the next registers
+  module _ {ws′ ls′ : List ℕ} (next : Compact) (m : Many w ws ls plan s ws′ ls′ (full next)) where
+    moved : schedule.run (step-by (spans (plan .tau)) (language w) (plan .fuel .0) (size / 32) (plan .birth) (plan .period)) (m .more + 1) (stateOf w (plan .tau) ws ls s)
+        ≡ ongoing (stateOf w (plan .tau) ws′ ls′ (full next))
+    moved = rw (r .long) at (m .same)
+
+    advances : BoundedState (plan .tau) (language w) (plan .fuel .0) (size / 32) (stateOf w (plan .tau) ws′ ls′ (full next))
+        × (to-go w size plan ws′ ls′ (full next) + (m .more + 1) ≤ to-go w size plan ws ls s)
+    advances = steps-advance (plan .tau) (language w) (plan .fuel .0) (size / 32) (plan .birth) (plan .period) (ready .limits .tau) (m .more + 1) _ _ bounded moved
+
+    many-less : to-go w size plan ws′ ls′ (full next) < to-go w size plan ws ls s
+    many-less = omega (arith, advances .1)
+
+    onward : (d : Schedule) → Flags (plan .fuel .0) d (plan .birth) (plan .period)
+        → schedule.run (step (spans (plan .tau)) (language w) (plan .fuel .0) (size / 32) d) ((r .left - (m .more + 1)) + 1) (stateOf w (plan .tau) ws′ ls′ (full next))
+        ≡ outcome (spans (plan .tau)) (language w) (plan .fuel .0) (size / 32) d (entryCode arguments)
+    unfolding and-then
+    onward d h =
+        let f = step (spans (plan .tau)) (language w) (plan .fuel .0) (size / 32) d in
+        let same = steps-same (plan .tau) (language w) (plan .fuel .0) (size / 32) (plan .birth) (plan .period) (ready .limits .tau) d h (m .more + 1) (stateOf w (plan .tau) ws ls s) bounded ∙ moved in
+        let all : (m .more + 1) + ((r .left - (m .more + 1)) + 1) ≡ r .left + 1 = omega (arith, r .enough, advances .1) in
+        let parts = run-then f (m .more + 1) ((r .left - (m .more + 1)) + 1) (stateOf w (plan .tau) ws ls s) in
+        sym (rw (all, same) at parts) ∙ r .course d h
+
+    many-next : length ws′ ≡ length ws → Paced plan next → Running w arguments size plan ws′ ls′ next
+    unfolding BoundedState
+    many-next l p =
+        let long′ : length ws′ ≡ size = l ∙ r .long in
+        record {
+          long = long′;
+          starts = record {
+            ready = record {
+              kept = m .kept;
+              limits = record { fuel = ready .limits .fuel; tau = ready .limits .tau; frames = rw l (ready .limits .frames) };
+              bounded = rw long′ (advances .0);
+            };
+            paced = p;
+          };
+          left = r .left - (m .more + 1);
+          enough = omega (arith, r .enough, advances .1);
+          course = onward;
+        }
+
+  -- ONE MOVE, which may be the last
+  module _ {ws′ ls′ : List ℕ} {o : Step} (a : Advanced w ws ls plan s ws′ ls′ o) where
+    one-many : (next : Registers) → o ≡ Go next → Many w ws ls plan s ws′ ls′ next
+    unfolding resultOf KeptBy schedule.run
+    one-many next e = record {
+      more = 0;
+      same = first-then (step-by (spans (plan .tau)) (language w) (plan .fuel .0) (length ws / 32) (plan .birth) (plan .period)) 0 (stateOf w (plan .tau) ws ls s) (stateOf w (plan .tau) ws′ ls′ next) (ongoing (stateOf w (plan .tau) ws′ ls′ next)) (rw e at (a .same)) refl;
+      kept = rw e at (a .kept);
+    }
+
+    ended-so : step-by (spans (plan .tau)) (language w) (plan .fuel .0) (size / 32) (plan .birth) (plan .period) (stateOf w (plan .tau) ws ls s)
         ≡ resultOf w (plan .tau) ws′ ls′ s o
-    moved = rw (r .long) at (g .same)
-
-    advances : Advances (plan .tau) (language w) (plan .fuel .0) (size / 32) (to-go w size plan ws ls s) (resultOf w (plan .tau) ws′ ls′ s o)
-    advances = rw moved at (step-by-advances (plan .tau) (language w) (plan .fuel .0) (size / 32) (r .ready .limits .tau) (plan .birth) (plan .period) (stateOf w (plan .tau) ws ls s) bounded)
+    ended-so = rw (r .long) at (a .same)
 
     turned : (m : Schedule) → Flags (plan .fuel .0) m (plan .birth) (plan .period)
         → and-then (resultOf w (plan .tau) ws′ ls′ s o) (schedule.run (step (spans (plan .tau)) (language w) (plan .fuel .0) (size / 32) m) (r .left))
         ≡ outcome (spans (plan .tau)) (language w) (plan .fuel .0) (size / 32) m (entryCode arguments)
     turned m h =
         let f = flags-are (plan .tau) (language w) (plan .fuel .0) (size / 32) m (plan .birth) (plan .period) h (stateOf w (plan .tau) ws ls s) bounded in
-        rw (← moved, ← f) (sym (run-next (step (spans (plan .tau)) (language w) (plan .fuel .0) (size / 32) m) (r .left) (stateOf w (plan .tau) ws ls s)) ∙ r .course m h)
-
-    pub running-less : (next : Registers) → o ≡ Go next → to-go w size plan ws′ ls′ next < to-go w size plan ws ls s
-    unfolding Advances resultOf
-    running-less next e = (rw e at advances) .1
-
-    pub running-next : (next : Registers) → o ≡ Go next → length ws′ ≡ length ws → Running w arguments size plan ws′ ls′ next
-    unfolding Advances BoundedState resultOf KeptBy and-then
-    running-next next e l =
-        let x = rw e at advances in
-        let long′ : length ws′ ≡ size = l ∙ r .long in
-        let less = running-less next e in
-        let up : r .left ≡ (r .left - 1) + 1 = omega (arith, r .enough) in
-        record {
-          long = long′;
-          ready = record {
-            kept = rw e at (g .kept);
-            limits = record { fuel = r .ready .limits .fuel; tau = r .ready .limits .tau; frames = rw l (r .ready .limits .frames) };
-            bounded = rw long′ (x .0);
-          };
-          left = r .left - 1;
-          enough = omega (arith, r .enough);
-          course = λ m h. rw (e, up) at (turned m h);
-        }
+        rw (← ended-so, ← f) (sym (run-next (step (spans (plan .tau)) (language w) (plan .fuel .0) (size / 32) m) (r .left) (stateOf w (plan .tau) ws ls s)) ∙ r .course m h)
 
     -- what the code tells of an end is what the definition tells
     told-so : ((next : Registers) → o ≡ Go next → ⊥) → (m : Schedule) → Flags (plan .fuel .0) m (plan .birth) (plan .period)
@@ -146,9 +192,9 @@ module _ (w arguments : List ℕ) (size : ℕ) (plan : Plan) (ws ls : List ℕ) 
         at-end (Value v) e = rw e (ap (toldBySpans (plan .tau)) (rw e at (turned m h)))
         at-end (Halt p) e = rw e (ap (toldBySpans (plan .tau)) (rw e at (turned m h)))
 
-    pub running-ends : ((next : Registers) → o ≡ Go next → ⊥) → (a : Answer) → a ≡ toldAt (plan .tau) s o → Ran w arguments size plan a
+    one-ends : ((next : Registers) → o ≡ Go next → ⊥) → (x : Answer) → x ≡ toldAt (plan .tau) s o → Ran w arguments size plan x
     unfolding toldAt leftBy
-    running-ends stays a e = record {
+    one-ends stays x e = record {
       answers = λ m h. e ∙ told-so stays m h;
       began = λ words. rw e (begins o words);
     }
@@ -157,3 +203,33 @@ module _ (w arguments : List ℕ) (size : ℕ) (plan : Plan) (ws ls : List ℕ) 
         begins (Go next) words = refl
         begins (Value v) words = refl
         begins (Halt p) words = refl
+
+  -- A STRIDE
+  module _ {ws′ ls′ : List ℕ} {o : Progress} (t : Strides w ws ls plan g ws′ ls′ o) where
+    strode-many : (next : Compact) → o ≡ progress.Go next → Many w ws ls plan s ws′ ls′ (full next)
+    unfolding stepOf
+    strode-many next e = on (t .strode)
+      where
+        on : Strode w ws ls plan s ws′ ls′ (stepOf o) → Many w ws ls plan s ws′ ls′ (full next)
+        on (one a) = one-many a (full next) (ap stepOf e)
+        on (many n f m) = let x : Go n ≡ Go (full next) = sym f ∙ ap stepOf e in let y : n ≡ full next = cc in rw y at m
+
+    pub running-less : (next : Compact) → o ≡ progress.Go next → to-go w size plan ws′ ls′ (full next) < to-go w size plan ws ls s
+    running-less next e = many-less next (strode-many next e)
+
+    pub running-next : (next : Compact) → o ≡ progress.Go next → length ws′ ≡ length ws → Running w arguments size plan ws′ ls′ next
+    unfolding PacedBy
+    running-next next e l = many-next next (strode-many next e) l (rw e at (t .paced))
+
+    pub running-ends : ((next : Compact) → o ≡ progress.Go next → ⊥) → (x : Answer) → x ≡ toldAt (plan .tau) s (stepOf o) → Ran w arguments size plan x
+    unfolding stepOf
+    running-ends stays x e = on (t .strode)
+      where
+        still : (p : Progress) → o ≡ p → (next : Registers) → stepOf p ≡ Go next → ⊥
+        still (progress.Go n) f next h = stays n f
+        still (progress.Value v) f next h = let z : _≡_ {A = ℕ} 0 1 = cc in absurd (omega arith)
+        still (progress.Halt p) f next h = let z : _≡_ {A = ℕ} 0 1 = cc in absurd (omega arith)
+
+        on : Strode w ws ls plan s ws′ ls′ (stepOf o) → Ran w arguments size plan x
+        on (one a) = one-ends a (still o refl) x e
+        on (many n f m) = absurd (still o refl n f)

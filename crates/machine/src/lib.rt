@@ -1,9 +1,11 @@
 // The three machines of document 01, in a lent workspace, for any input.
 //
-// `sequential`, `parallel` and `heartbeat` check their input and then run it, by one loop over `moves::advance`; `all_three` calls all of
+// `sequential`, `parallel` and `heartbeat` check their input and then run it, by one loop over `strides::stride`; `all_three` calls all of
 // them, and promises demand 3 of their answers. What they answer is defined in crate `language` (specs/Answers.antt), and what they leave
 // in the workspace in specs/Workspace.antt.
 
+use compact::Compact;
+use compact::Progress;
 use language::Answer;
 use language::Counts;
 use language::Settings;
@@ -11,8 +13,6 @@ use language::Stop;
 use moves::Control;
 use moves::Plan;
 use moves::Registers;
-use moves::Step;
-use schedule::Credits;
 use schedule::Fuel;
 use schedule::Span;
 use schedule::Work;
@@ -23,6 +23,7 @@ ghost use lib.ListN.{length, take};
 ghost use Rattle.table.specs.Read.{startsOf};
 ghost use Rattle.language.specs.Answers.{countsOf, stopped, sequentialOf, parallelOf, heartbeatOf};
 ghost use Rattle.language.specs.Stops.{StopListed};
+ghost use Rattle.compact.specs.Compact.{stepOf, compactOf};
 ghost use Rattle.machine.specs.Workspace.{leftBy};
 ghost use Rattle.machine.specs.Runs.{begun, toldAt, Countable, Accepted, Begins, Ran, Tells};
 ghost use Rattle.machine.specs.AllThree.{AllThree};
@@ -38,18 +39,19 @@ pub struct Answers {
 }
 
 // The registers at a run's start, with so many arguments.
-fn begin(count: usize) -> Registers
-    ensures { λ r. ⌜ r ≡ begun count ⌝ }
+fn begin(plan: Plan, count: usize) -> Compact
+    ensures { λ r. ⌜ r ≡ compactOf plan (begun count) ⌝ }
 {
-    let credits = Credits::none();
-    let span = Span::none();
-    Registers {
+    let fuel = plan.fuel;
+    let before = Span::none();
+    Compact {
         control: Control::Eval(0, 0, count),
         depth: 0,
-        oldest: 4096,
-        credits,
-        span,
+        oldest: moves::NO_FORK,
         transitions: 0,
+        since: 0,
+        before,
+        limit: fuel.0,
         forks: 0,
         deepest: 0,
     }
@@ -82,14 +84,14 @@ fn stop(number: u32, function: usize, node: usize, transitions: u64) -> Answer
 }
 
 // The answer where a run ends: its value with the counts, or its stop with the transitions made.
-fn tell(plan: Plan, s: Registers, step: Step) -> Answer
+fn tell(plan: Plan, s: Registers, step: Progress) -> Answer
     requires { ⌜ Countable plan s ⌝ }
-    ensures { λ r. ⌜ r ≡ toldAt (plan .tau) s step ⌝ }
+    ensures { λ r. ⌜ r ≡ toldAt (plan .tau) s (stepOf step) ⌝ }
 {
     match step {
-        Step::Value(v) => Answer::Value(v, count(plan.tau, s)),
-        Step::Halt(h) => stop(h.number, h.function, h.node, s.transitions),
-        Step::Go(_) => stop(0, 0, 0, 0),
+        Progress::Value(v) => Answer::Value(v, count(plan.tau, s)),
+        Progress::Halt(h) => stop(h.number, h.function, h.node, s.transitions),
+        Progress::Go(_) => stop(0, 0, 0, 0),
     }
 }
 
@@ -105,13 +107,13 @@ fn drive(
     requires { ⌜ (Begins (now words) (now ws) (now locals) plan count) × (now starts ≡ startsOf (now words)) ⌝ }
     ensures { λ r. ⌜ Ran (now (words .entry)) (take count (now (locals .entry))) (length (now (ws .entry))) plan r ⌝ }
 {
-    let mut s = begin(count);
+    let mut g = begin(plan, count);
     loop {
-        let step = moves::advance(words, starts, ws, locals, plan, s);
-        let Step::Go(next) = step else {
-            return tell(plan, s, step);
+        let step = strides::stride(words, starts, ws, locals, plan, g);
+        let Progress::Go(next) = step else {
+            return tell(plan, compact::expand(g), step);
         };
-        s = next;
+        g = next;
     }
 }
 

@@ -1,4 +1,5 @@
--- `machine::begin` meets its contract: the counts of a start are 0. Assumes nothing.
+-- `machine::begin` meets its contract: the counts of a start are 0, and its limit is the fuel. Assumes nothing.
+use Rattle.compact.specs.Compact.{limitOf}
 use borrow.Author.Needs.{needs}
 use Rattle.machine.proofs.begin.Statement.{statement}
 use Rattle.machine.proofs.begin.Tie as tie
@@ -6,11 +7,9 @@ use Rattle.machine.proofs.begin.Tie as tie
 none-requires : tie.Need-none-requires
 none-requires c κs = search needs
 
-none-requires-2 : tie.Need-none-requires-2
-none-requires-2 c κs = search needs
-
 returns : tie.Need-returns
-returns c = rw (c .before .none .ensures, c .none2 .ensures)
+unfolding limitOf
+returns c = rw (c .none .ensures)
 
 pub begin-spec : {M : Type 1} → statement M
-begin-spec = tie.close (tie.spec none-requires none-requires-2 returns)
+begin-spec = tie.close (tie.spec none-requires returns)

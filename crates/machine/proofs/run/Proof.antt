@@ -7,10 +7,10 @@ use Rattle.machine.proofs.run.Statement.{statement}
 use Rattle.machine.proofs.run.Tie as tie
 
 copy-requires : tie.Need-copy-requires
-copy-requires c κs = let room = few (c .before .before .before .before .before .before .args .words .now) (c .before .before .before .before .before .before .args .arguments .now) _ _ (c .before .before .before .before .before .before .pre .0) in (omega (arith, c .before .before .before .before .before .before .pre .2), omega arith)
+copy-requires c κs = let entry = c .before .before .before .before .before .before in let room = few (entry .args .words .now) (entry .args .arguments .now) _ _ (entry .pre .0) in (omega (arith, entry .pre .2), omega arith)
 
 drive-requires : tie.Need-drive-requires
-drive-requires c κs = (record { table = c .before .before .before .before .before .before .before .before .before .before .before .pre .0 .table; limits = c .before .before .before .before .before .before .before .before .before .before .before .pre .0 .limits; sixteen = c .before .before .before .before .copy .kept .0 ∙ c .before .before .before .before .before .before .before .before .before .before .before .pre .2; arguments = c .before .before .before .before .before .before .before .before .before .before .before .pre .0 .count }, c .before .before .before .before .before .before .before .before .before .before .before .pre .1)
+drive-requires c κs = let entry = c .before .before .before .before .before .before .before .before .before .before .before in (record { table = entry .pre .0 .table; limits = entry .pre .0 .limits; sixteen = c .before .before .before .before .copy .kept .0 ∙ entry .pre .2; arguments = entry .pre .0 .count }, entry .pre .1)
 
 clear-requires : tie.Need-clear-requires
 clear-requires c κs = search needs
@@ -22,10 +22,12 @@ same-length-2 : tie.Need-same-length-2
 same-length-2 c = search needs
 
 returns : tie.Need-returns
-returns c = let room = few (c .before .before .before .before .before .before .before .before .before .before .before .before .before .before .before .before .before .before .before .before .args .words .now) (c .before .before .before .before .before .before .before .before .before .before .before .before .before .before .before .before .before .before .before .before .args .arguments .now) _ _ (c .before .before .before .before .before .before .before .before .before .before .before .before .before .before .before .before .before .before .before .before .pre .0) in (
-  ran-with (c .before .before .before .before .before .before .before .before .before .before .before .before .before .before .before .before .before .before .before .before .args .words .now) _ (c .before .before .before .before .before .before .before .before .before .before .before .before .before .before .before .before .before .before .before .before .args .arguments .now) _ (c .before .before .before .before .before .before .before .before .before .before .before .before .before .before .before .before .before .before .before .before .args .plan) _ (copied (c .before .before .before .before .before .before .before .before .before .before .before .before .before .before .before .before .before .before .before .before .args .locals .now) (c .before .before .before .before .before .before .before .before .before .before .before .before .before .before .before .before .before .before .before .before .args .arguments .now) _ (omega (arith, c .before .before .before .before .before .before .before .before .before .before .before .before .before .before .before .before .before .before .before .before .pre .2)) (c .before .before .before .before .before .before .before .before .before .before .before .before .before .copy .ensures)) (c .before .before .before .before .before .before .before .before .drive .ensures),
-  zeroed (c .before .before .before .before .before .before .before .before .before .before .before .before .before .before .before .before .before .before .before .before .args .ws .now) _ _ _ (c .before .before .clear .ensures) (c .before .before .before .before .before .before .before .before .drive .kept .1 .1 .0) (c .before .before .before .before .before .before .before .before .drive .ensures .began _),
-)
+returns c =
+    let entry = c .before .before .before .before .before .before .before .before .before .before .before .before .before .before .before .before .before .before .before .before in
+    let room = few (entry .args .words .now) (entry .args .arguments .now) _ _ (entry .pre .0) in (
+      ran-with (entry .args .words .now) _ (entry .args .arguments .now) _ (entry .args .plan) _ (copied (entry .args .locals .now) (entry .args .arguments .now) _ (omega (arith, entry .pre .2)) (c .before .before .before .before .before .before .before .before .before .before .before .before .before .copy .ensures)) (c .before .before .before .before .before .before .before .before .drive .ensures),
+      zeroed (entry .args .ws .now) _ _ _ (c .before .before .clear .ensures) (c .before .before .before .before .before .before .before .before .drive .kept .1 .1 .0) (c .before .before .before .before .before .before .before .before .drive .ensures .began _),
+    )
 
 pub run-spec : {M : Type 1} → statement M
 run-spec =

@@ -1,4 +1,5 @@
--- `machine::tell` meets its contract: by the step's case, as `toldAt` has it. Assumes nothing.
+-- `machine::tell` meets its contract: by the case of the step, as `toldAt` has it. Assumes nothing.
+use Rattle.compact.specs.Compact.{stepOf}
 use Rattle.machine.specs.Runs.{toldAt}
 use borrow.Author.Needs.{needs}
 use Rattle.machine.proofs.tell.Statement.{statement}
@@ -23,15 +24,15 @@ stop-requires-2 : tie.Need-stop-requires-2
 stop-requires-2 c κs = search needs
 
 returns : tie.Need-returns
-unfolding toldAt
+unfolding toldAt stepOf
 returns c = rw (c .before .before .step .given .1, c .count .ensures)
 
 returns-2 : tie.Need-returns-2
-unfolding toldAt
+unfolding toldAt stepOf
 returns-2 c = rw (c .before .before .step2 .given .1, c .stop .ensures)
 
 returns-3 : tie.Need-returns-3
-unfolding toldAt
+unfolding toldAt stepOf
 returns-3 c = rw (c .before .enum-told .given .1, c .stop2 .ensures)
 
 pub tell-spec : {M : Type 1} → statement M
