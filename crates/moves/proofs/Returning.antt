@@ -17,7 +17,7 @@ use Rattle.table.specs.Words.{functions, arityAt, startOf, tagAt, aAt, bAt}
 use Rattle.table.specs.Nodes.{nodeAt}
 use Rattle.table.specs.Read.{startsOf}
 use Rattle.frames.specs.Frames.{turned, collected, loaded, appended}
-use Rattle.frames.proofs.Writes.{Turned, Collected, Loaded, is-turned, is-collected, is-loaded, is-appended}
+use Rattle.frames.proofs.Writes.{Turned, Loaded, is-turned, is-collected, is-loaded, is-appended}
 use Rattle.table.specs.declared.Operation.{Operation}
 use Rattle.table.specs.declared.Node.the-variants.{Arithmetic}
 use Rattle.arithmetic.specs.declared.Computed.{Computed}
@@ -77,10 +77,6 @@ module _ (w ws ls : List ℕ) (plan : Plan) (s : Registers) (v t kind : ℕ) (q 
 
   pub sitting-collected : (n : ℕ) → n < 3 → (ws′ : List ℕ) → length ws′ ≡ length ws → ws′ ≡ collected ws t n v → Sitting w ws′ ls t
   sitting-collected n few ws′ long e = let u = is-collected ws ws′ t room n v few e in record { table = r .kept .table; room = omega (arith, room); sixteen = r .kept .sixteen; stands = rw (u .is-function, u .is-node, u .is-count) (top .stands) }
-
-  -- the same at the kind that it is
-  pub kind-is : (j : ℕ) → kind ≡ j → Returns w ws ls plan s v t j
-  kind-is j e = record { ready = q .ready; is = q .is; depth = q .depth; of-kind = q .of-kind ∙ e }
 
   -- the move, by the slot that the words hold
   abbrev from : Slot ℕ Frame Code → Result K (language w)

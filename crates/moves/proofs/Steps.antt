@@ -14,8 +14,7 @@ use Rattle.schedule.specs.Algebra.{CostAlgebra, spans}
 use Rattle.schedule.specs.Machine.{Slot, ordinary, plain-left, promoted-left, stop, state, ended, ongoing, tick, after-transition, with-fuel, with-frame, evaluated, move}
 use Rattle.schedule.specs.Machine.{RunCounts}
 use Rattle.table.specs.declared.Operation.{Operation}
-use Rattle.table.specs.declared.Node.{Node}
-use Rattle.table.specs.declared.Node.the-variants.{Constant, Local, Arithmetic, Choose, Let, Call, Both, Unknown}
+use Rattle.table.specs.declared.Node.the-variants.{Constant, Local, Arithmetic, Choose, Let, Call, Both}
 use Rattle.table.specs.Words.{arityAt, startOf, tagAt, aAt}
 use Rattle.table.specs.Nodes.{nodeAt}
 use Rattle.table.specs.Read.{startsOf}
@@ -31,7 +30,7 @@ use Rattle.moves.specs.declared.Step.{Step}
 use Rattle.moves.specs.declared.Step.the-variants.{Go}
 use Rattle.moves.specs.Layout.{slotOf, slotAt, stackOf, controlOf, runCountsOf, stateOf, resultOf, ticked, oldestWith, halted}
 use Rattle.moves.specs.Ready.{Stands, Fitting, Held, Controlled, Oldest, Kept, Ready, KeptBy, Stepped, Framed, transited, Opened, dry, opens, Forked, forks, OpenedBoth, born, plain}
-use Rattle.moves.proofs.Nodes.{start-inside, start-is, inside, local-in, known, tag-is, arithmetic-in, choose-in, let-in, both-in, argument-first, enter, called-is, callee}
+use Rattle.moves.proofs.Nodes.{start-inside, start-is, inside, local-in, tag-is, arithmetic-in, choose-in, let-in, both-in, argument-first, enter, called-is, callee}
 use Rattle.moves.proofs.Stacks.{length-stack, stack-more, held-more, same-slots}
 use Rattle.moves.proofs.OldestFork.{oldest-other, oldest-with}
 
@@ -74,15 +73,6 @@ module _ (w ws ls : List ℕ) (plan : Plan) (s : Registers) (r : Ready w ws ls p
 
       pub node-read : getD starts f 0 + 4 * p + 4 ≤ length w
       node-read = rw (start-is w (r .kept .table) starts a here) (inside w (r .kept .table) here .0)
-
-      pub node-here : (x y : Node) → x ≡ nodeAt w (getD starts f 0) p → x ≡ y → nodeAt w (startOf w f) p ≡ y
-      node-here x y b c = sym (rw (start-is w (r .kept .table) starts a here) at b) ∙ c
-
-    pub callee-inside : (g b c : ℕ) → nodeAt w (startOf w f) p ≡ Call g b c → 2 * g + 1 < length w
-    callee-inside g b c n = omega (arith, callee w (r .kept .table) here g b c n, r .kept .table .contents .header .room)
-
-    pub never-unknown : nodeAt w (startOf w f) p ≡ Unknown → ⊥
-    never-unknown = known w (r .kept .table) here
 
     abbrev code : Code
     code = record { function = f; node = p; locals = take k ls }

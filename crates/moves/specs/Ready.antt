@@ -104,11 +104,6 @@ pub record Advanced (w ws ls : List ℕ) (plan : Plan) (s : Registers) (ws′ ls
   pub same : step-by (spans (plan .tau)) (language w) (plan .fuel .0) (length ws / 32) (plan .birth) (plan .period) (stateOf w (plan .tau) ws ls s) ≡ resultOf w (plan .tau) ws′ ls′ s r
   pub kept : KeptBy w ws′ ls′ (plan .birth) r
 
--- a node is evaluated
-pub record Evaluates (w ws ls : List ℕ) (plan : Plan) (s : Registers) (seat : Seat) : Type 0 where
-  pub ready : Ready w ws ls plan s
-  pub is : s .control ≡ Eval (seat .function) (seat .node) (seat .count)
-
 -- a value returns to the frame at `top`, of a kind
 pub record Returns (w ws ls : List ℕ) (plan : Plan) (s : Registers) (v top kind : ℕ) : Type 0 where
   pub ready : Ready w ws ls plan s

@@ -13,7 +13,7 @@ ghost use lib.Dec.{ltb, leb};
 ghost use Rattle.table.specs.Words.{arityAt};
 ghost use Rattle.table.specs.Read.{startsOf};
 ghost use Rattle.moves.specs.Layout.{ticked, restarted, risen, oldestWith, oldestWithout, halted};
-ghost use Rattle.moves.specs.Ready.{Ready, Evaluates, Returns, Paid, Stepped, Advanced, Framed, transited, Opened, Forked, OpenedBoth, Sitting, Child, Operand, operation, Resumed, calledAt, Concluded, Found, Promoted};
+ghost use Rattle.moves.specs.Ready.{Returns, Paid, Stepped, Framed, transited, Opened, Forked, OpenedBoth, Sitting, Child, Operand, operation, Resumed, calledAt, Concluded, Found, Promoted};
 
 // The kinds of frames: an arithmetic that awaits its left or its right operand, a choose, a let, a call; a plain fork that awaits its left or
 // its right value, and a promoted one.

@@ -1,18 +1,17 @@
 -- What a node of the job language leads to, where its children have values by ordinary frames alone.
-use Prim.Native.Nat.{ℕ, zero, suc, _+_, _≤_, _<_, max}
-use mathlib.Core.Path.{_≡_, refl, sym, ap, _∙_}
+use Prim.Native.Nat.{ℕ, _+_, _≤_, _<_, max}
+use mathlib.Core.Path.{_≡_, refl, _∙_}
 use mathlib.Core.Bool.{cond}
 use mathlib.Core.List.{List, [], _∷_, _++_}
 use native.Mathlib.Omega.{arith}
 use lib.ListN.{getD}
 use lib.Dec.{eqb}
 use Rattle.schedule.specs.FrameMachine.{evaluate, return, go-on, open-frame, close, keep}
-use Rattle.schedule.specs.FrameMachine.{Control as FlatControl}
 use Rattle.schedule.specs.Stretch.{Leads, goes, enters, Through, closes, keeps}
 use Rattle.table.specs.declared.Operation.{Operation}
 use Rattle.table.specs.declared.Node.{Node}
-use Rattle.table.specs.declared.Node.the-variants.{Constant, Local, Arithmetic, Choose, Let, Call}
-use Rattle.table.specs.Words.{arityAt, startOf, tagAt, aAt, bAt, cAt}
+use Rattle.table.specs.declared.Node.the-variants.{Constant, Local, Arithmetic}
+use Rattle.table.specs.Words.{arityAt, startOf, tagAt}
 use Rattle.table.specs.Nodes.{nodeOf, nodeAt}
 use Rattle.arithmetic.specs.declared.Computed.the-variants.{Is}
 use Rattle.arithmetic.specs.Operate.{computed}

@@ -1,5 +1,5 @@
 -- One step by compact registers is a stride.
-use Prim.Native.Nat.{ℕ, _+_, _*_, _/_, _≤_, _<_, _^_}
+use Prim.Native.Nat.{ℕ, _+_, _*_, _/_, _≤_, _<_}
 use mathlib.Core.Path.{_≡_, refl, sym, ap, _∙_}
 use mathlib.Core.Bool.{false}
 use mathlib.Core.List.{List}
@@ -34,9 +34,6 @@ use Rattle.strides.specs.Strides.{one, Strides, Starts, Calm, Evaluating
 module _ (w ws ls : List ℕ) (plan : Plan) (g : Compact) (s : Starts w ws ls plan g) where
   pub small : Small g
   small = record { transitions = bounds w ws ls plan (full g) (s .ready) .2; depth = omega (arith, s .ready .kept .room, s .ready .limits .frames) }
-
-  pub expandable : (g .since ≤ g .transitions) × (full g .span .0 < 2 ^ 60)
-  expandable = (s .paced .since, bounds w ws ls plan (full g) (s .ready) .1)
 
   -- A STEP'S ANSWER can be made compact, and is a stride
   module _ (ws′ ls′ : List ℕ) where

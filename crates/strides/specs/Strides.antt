@@ -11,7 +11,7 @@ use Rattle.schedule.specs.Machine.{ongoing}
 use Rattle.schedule.specs.Runs.{run}
 use Rattle.schedule.specs.Bounds.{step-by}
 use Rattle.schedule.specs.Stretch.{Leads, Through}
-use Rattle.table.specs.Words.{startOf, tagAt}
+use Rattle.table.specs.Words.{startOf}
 use Rattle.table.specs.WellFormed.{WellFormed}
 use Rattle.frames.specs.Frames.{pushed, turned}
 use Rattle.language.specs.Language.{Code, left-operand, language}
@@ -23,7 +23,7 @@ use Rattle.moves.specs.declared.Seat.{Seat}
 use Rattle.moves.specs.declared.Step.{Step}
 use Rattle.moves.specs.declared.Step.the-variants as step
 use Rattle.moves.specs.Layout.{codeAt, controlOf, stateOf}
-use Rattle.moves.specs.Ready.{Stands, Controlled, Kept, Ready, Returns, Operand, Advanced}
+use Rattle.moves.specs.Ready.{Stands, Controlled, Kept, Ready, Advanced}
 use Rattle.compact.specs.declared.Compact.{Compact}
 use Rattle.compact.specs.declared.Progress.{Progress}
 use Rattle.compact.specs.declared.Progress.the-variants.{Go, Value, Halt}
