@@ -3,7 +3,6 @@ use Prim.Native.Nat.{ℕ, _+_, _*_, _/_, _≤_, _<_, max}
 use mathlib.Core.Path.{_≡_, refl, ap, _∙_}
 use mathlib.Core.Bool.{Bool, true, false, cond}
 use mathlib.Core.List.{List, [], _∷_, _++_}
-use mathlib.Core.Logic.{_⊎_, inl, inr}
 use native.Mathlib.Omega.{arith}
 use native.Mathlib.Decide.{ℕ-discrete}
 use lib.ListN.{length, getD, take}
@@ -25,17 +24,16 @@ use Rattle.moves.specs.declared.Seat.{Seat}
 use Rattle.moves.specs.Layout.{controlOf}
 use Rattle.moves.specs.Ready.{Stands, Controlled, Framed, transited, Opened}
 use Rattle.moves.proofs.Nodes.{called-in, argument-first, argument-later, enter}
-use Rattle.moves.proofs.Steps.{here, framed, stepped-enter, stepped-call}
+use Rattle.moves.proofs.Steps.{stepped-enter, stepped-call}
 use Rattle.compact.specs.declared.Compact.{Compact}
 use Rattle.compact.specs.declared.Progress.{Progress}
-use Rattle.compact.specs.declared.Progress.the-variants.{Go, Value, Halt}
+use Rattle.compact.specs.declared.Progress.the-variants.{Go}
 use Rattle.compact.specs.Compact.{full, stepOf, Paced, PacedBy, laterOf, Roomy}
 use Rattle.operands.specs.Operands.{costAt, framesOf, bothOf, simpleAt, SimpleAt, CostAt}
 use Rattle.strides.specs.Strides.{Strides, one, Tagged, Evaluating, codeOf, Jump, Jumps}
 use Rattle.operands.proofs.Leading.{call-one-leads, call-two-leads, call-three-leads}
 use Rattle.strides.proofs.Forms.{first-word, child-cost, child-simple, child-leads, jump}
-use Rattle.strides.proofs.Settling.{small, move-advances}
-use Rattle.strides.proofs.Striding.{jump-strides}
+use Rattle.strides.proofs.Striding.{tagged, frame-fits, jumps-none, jumps-strides, one-strides}
 
 -- two costs together, where neither is 0
 pub both-some : (n k l : ℕ) → n ≡ bothOf k l → 0 < n → (0 < k) × (0 < l) × (n ≡ k + l)
@@ -161,41 +159,19 @@ module _ {w ls : List ℕ} {g : Compact} {seat : Seat} {start at f : ℕ} (t : T
             let top : h ≡ max (framesOf k) (max (framesOf l) (framesOf i)) = rw (ea, rw (eb, ec) at ed) at eh in
             jump w ls g seat start at (t .site) frames ls′ next (Eval f 0 3) (k + l + i + 4) (h + 1) (omega arith) e (rw sum at (room .1)) (rw (f-is, top, are) lead) (entered m) (a₃ .sixteen)
 
--- A NODE THAT IS EVALUATED
-pub neither : (_≡_ {A = ℕ} 0 1) ⊎ (_≡_ {A = ℕ} 0 2) → ⊥
-neither (inl e) = absurd (omega arith)
-neither (inr e) = absurd (omega arith)
-
+-- A NODE THAT IS EVALUATED: the laws of Striding, from `Evaluating` alone
 module _ {w ws ls : List ℕ} {plan : Plan} {g : Compact} {seat : Seat} {start at tag : ℕ} (v : Evaluating w ws ls plan g seat start at tag) where
   pub tagged-here : Tagged w ls g seat start at tag
-  tagged-here =
-      let r = v .calm .starts .ready in
-      record {
-        site = record {
-          table = r .kept .table;
-          stands = here w ws ls plan (full g) r (seat .function) (seat .node) (seat .count) (v .is);
-          place = v .place;
-          word = v .word;
-          sixteen = r .kept .sixteen;
-          small = small w ws ls plan g (v .calm .starts);
-        };
-        is = v .tagged;
-      }
+  tagged-here = tagged w ws ls plan g seat start at tag v
 
-  -- it leads on
   pub jump-goes : (ls′ : List ℕ) (r : Progress) → Jumps w ls (length ws / 32) g seat ls′ r → {next : Compact} → r ≡ Go next → Strides w ws ls plan g ws ls′ (Go next)
-  unfolding Jumps
-  jump-goes ls′ r j {next} e = jump-strides w ws ls plan g (v .calm .starts) seat (v .is) ls′ next (rw e at j)
+  jump-goes ls′ r j {next} e = jumps-strides w ws ls plan g seat start at tag v ls′ r next e j
 
-  -- nothing comes of it: the locals are as they were, and a frame can be opened
   pub jump-stays : (ls′ : List ℕ) (r : Progress) → Jumps w ls (length ws / 32) g seat ls′ r → ((next : Compact) → r ≡ Go next → ⊥) → ls′ ≡ ls
-  unfolding Jumps
-  jump-stays ls′ (Go next) j n = absurd (n next refl)
-  jump-stays ls′ (Value v) j n = j
-  jump-stays ls′ (Halt h) j n = j
+  jump-stays ls′ r j n = jumps-none w ls (length ws / 32) g seat ls′ r j n
 
   pub can-open : {ls′ : List ℕ} → ls′ ≡ ls → Framed ws ls′ (full g) seat × Paced plan g
-  can-open e = rw e (framed w ws ls plan (full g) (v .calm .starts .ready) (seat .function) (seat .node) (seat .count) (v .is), v .calm .starts .paced)
+  can-open {ls′} e = frame-fits w ws ls plan g seat start at tag v ws ls′ refl e
 
 -- A CALL, by one step
 module _ {w ws ls : List ℕ} {plan : Plan} {g : Compact} {seat : Seat} {start at f : ℕ} (v : Evaluating w ws ls plan g seat start at 5) (called : f ≡ getD w (at + 1) 0) where
@@ -206,10 +182,10 @@ module _ {w ws ls : List ℕ} {plan : Plan} {g : Compact} {seat : Seat} {start a
   pub call-enters : arityAt w f ≡ 0 → (r : Progress) → (stepOf r ≡ transited plan (full g) seat (Eval f 0 0)) × PacedBy plan r → Strides w ws ls plan g ws ls r
   call-enters n r o =
       let m = stepped-enter w ws ls plan (full g) (v .calm .starts .ready) (seat .function) (seat .node) (seat .count) (v .is) f _ _ (stepOf r) node-is n (o .0) in
-      record { strode = one (move-advances w ws ls plan g (v .calm) ws ls (stepOf r) m); paced = o .1 }
+      one-strides w ws ls plan g seat start at 5 v ws ls r m (o .1)
 
   pub call-opens : 0 < arityAt w f → {ws′ ls′ : List ℕ} → length ws′ ≡ length ws → ls′ ≡ ls → (r : Progress)
       → Opened ws ws′ ls′ plan (full g) seat 4 (g .oldest) (stepOf r) × PacedBy plan r → Strides w ws ls plan g ws′ ls′ r
   call-opens n {ws′} long e r o =
       let m = stepped-call w ws ls plan (full g) (v .calm .starts .ready) (seat .function) (seat .node) (seat .count) (v .is) ws′ long (stepOf r) f _ _ node-is (λ z. omega arith) (rw e at (o .0)) in
-      rw e (record { strode = one (move-advances w ws ls plan g (v .calm) ws′ ls (stepOf r) m); paced = o .1 })
+      rw e (one-strides w ws ls plan g seat start at 5 v ws′ ls r m (o .1))

@@ -1,6 +1,7 @@
 -- `strides::evaluate_arguments` meets its contract, by the laws of Calls.
 use native.Mathlib.Omega.{arith}
-use Rattle.strides.proofs.Calls.{neither, tagged-here, jump-goes, jump-stays, can-open, call-opens}
+use Rattle.strides.proofs.Striding.{neither}
+use Rattle.strides.proofs.Calls.{tagged-here, jump-goes, jump-stays, can-open, call-opens}
 use borrow.Author.Needs.{needs}
 use Rattle.strides.proofs.evaluate_arguments.Statement.{statement}
 use Rattle.strides.proofs.evaluate_arguments.Tie as tie
