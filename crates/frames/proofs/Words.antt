@@ -6,6 +6,7 @@
 --     take-paste-below    and all of them together
 --     pasted              what was copied stands there
 --     getD-write-other    a write at offset i of a frame leaves the word at another offset j
+--     same-word, part-same  words of two lists that agree
 -- Assumes nothing.
 use Prim.Native.Nat.{ℕ, _+_, _-_, _<_, _≤_}
 use mathlib.Core.Path.{_≡_, _∙_, ap, sym}
@@ -14,7 +15,7 @@ use native.Mathlib.Omega.{arith}
 use native.Mathlib.Nat.{add-zero}
 use native.Mathlib.Numerals.{add-one}
 use lib.ListN.{length, getD, take, drop, set, length-drop, length-append, List·getD-append}
-use lib.Seq.{paste, paste-zero, paste-suc, take-paste, drop-paste, take-add, drop-drop, getD-drop, getD-take, take-append-le, take-take, take-at, drop-at, getD-set-other, length-take-le}
+use lib.Seq.{paste, paste-zero, paste-suc, take-paste, drop-paste, take-add, drop-drop, getD-drop, getD-take, take-append-le, take-take, take-at, drop-at, getD-set-other, ext-getD, length-take-le}
 
 pub copied : (d : List ℕ) (at : ℕ) (s : List ℕ) (from i : ℕ) → at + i < length d → from + i < length s
     → set (paste d at (drop from s) i) (at + i) (getD s (from + i) 0) ≡ paste d at (drop from s) (i + 1)
@@ -79,3 +80,19 @@ module _ (d : List ℕ) (at : ℕ) (s : List ℕ) (n : ℕ) (h : at ≤ length d
 
 pub getD-write-other : (ws : List ℕ) (b i j v : ℕ) → (i ≡ j → ⊥) → getD (set ws (b + i) v) (b + j) 0 ≡ getD ws (b + j) 0
 getD-write-other ws b i j v h = getD-set-other ws (b + i) (b + j) v 0 (omega arith)
+
+-- a word of two lists that agree on their first n
+pub same-word : (l l′ : List ℕ) (n : ℕ) → take n l ≡ take n l′ → (i : ℕ) → i < n → getD l i 0 ≡ getD l′ i 0
+same-word l l′ n e i h = sym (getD-take n l i 0 h) ∙ ap (λ (x : List ℕ). getD x i 0) e ∙ getD-take n l′ i 0 h
+
+-- c words from b on, where each agrees
+pub part-same : (l l′ : List ℕ) (b c : ℕ) → length l ≡ length l′ → b + c ≤ length l → ((i : ℕ) → b ≤ i → i < b + c → getD l i 0 ≡ getD l′ i 0)
+    → take c (drop b l) ≡ take c (drop b l′)
+part-same l l′ b c e h s =
+    let x : c ≤ length (drop b l) = simp length-drop (omega arith) in
+    let x′ : c ≤ length (drop b l′) = simp length-drop (omega arith) in
+    let y : length (take c (drop b l)) ≡ c = length-take-le c (drop b l) x in
+    let y′ : length (take c (drop b l′)) ≡ c = length-take-le c (drop b l′) x′ in
+    ext-getD 0 (take c (drop b l)) (take c (drop b l′)) (y ∙ sym y′) (λ i g.
+    let k : i < c = rw y at g in
+    getD-take c (drop b l) i 0 k ∙ getD-drop b l i 0 ∙ s (b + i) (omega arith) (omega arith) ∙ sym (getD-drop b l′ i 0) ∙ sym (getD-take c (drop b l′) i 0 k))

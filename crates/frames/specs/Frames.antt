@@ -1,54 +1,99 @@
--- What each function leaves in the buffer that it writes: the whole list, as a function of what it held before.
--- `ws` are the words of the workspace, `ls` the locals; `set` writes one word, and `paste` the first words of a list. Assumes nothing.
-use Prim.Native.Nat.{ℕ, _+_, _*_}
+-- What a frame holds, and what each function leaves in the buffer that it writes: the whole list, as a function of what it held before.
+-- `ws` are the words of the workspace, b is the first word of a frame, `ls` are the locals; `set` writes one word, and `paste` the first
+-- words of a list. Assumes nothing.
+use Prim.Native.Nat.{ℕ, _+_}
 use mathlib.Core.List.{List}
-use lib.ListN.{set, drop}
+use lib.ListN.{getD, take, drop, set}
 use lib.Seq.{paste}
+use Rattle.schedule.specs.declared.Span.{Span}
+use Rattle.frames.specs.declared.Frame.{Frame}
 
--- THE LAYOUT of frame d, which is 32 words: where each of its parts stands. Word 7 and the last five are not used.
-abbrev pub kindWord : ℕ → ℕ
-kindWord d = 32 * d
-
+-- THE LAYOUT of a frame, which is 32 words: where each of its parts stands. Word 7 and the last five are not used.
 abbrev pub functionWord : ℕ → ℕ
-functionWord d = 32 * d + 1
+functionWord b = b + 1
 
 abbrev pub nodeWord : ℕ → ℕ
-nodeWord d = 32 * d + 2
+nodeWord b = b + 2
 
 abbrev pub countWord : ℕ → ℕ
-countWord d = 32 * d + 3
+countWord b = b + 3
 
 abbrev pub valueWord : ℕ → ℕ
-valueWord d = 32 * d + 4
+valueWord b = b + 4
 
 abbrev pub beforeWord : ℕ → ℕ
-beforeWord d = 32 * d + 5
+beforeWord b = b + 5
 
 abbrev pub leftWord : ℕ → ℕ
-leftWord d = 32 * d + 6
+leftWord b = b + 6
 
 abbrev pub localsWord : ℕ → ℕ
-localsWord d = 32 * d + 8
+localsWord b = b + 8
 
 abbrev pub argumentsWord : ℕ → ℕ
-argumentsWord d = 32 * d + 24
+argumentsWord b = b + 24
 
--- a new frame d: its kind, function and node, the first k locals with their number, no value yet, and the span before the fork
+-- WHAT A FRAME HOLDS: its kind, the function and the node, how many locals it saves, its value (or how many arguments are collected), the
+-- span before the fork and that of the left branch
+abbrev pub frameKind : List ℕ → ℕ → ℕ
+frameKind ws b = getD ws b 0
+
+abbrev pub frameFunction : List ℕ → ℕ → ℕ
+frameFunction ws b = getD ws (functionWord b) 0
+
+abbrev pub frameNode : List ℕ → ℕ → ℕ
+frameNode ws b = getD ws (nodeWord b) 0
+
+abbrev pub frameCount : List ℕ → ℕ → ℕ
+frameCount ws b = getD ws (countWord b) 0
+
+abbrev pub frameValue : List ℕ → ℕ → ℕ
+frameValue ws b = getD ws (valueWord b) 0
+
+abbrev pub frameBefore : List ℕ → ℕ → ℕ
+frameBefore ws b = getD ws (beforeWord b) 0
+
+abbrev pub frameLeft : List ℕ → ℕ → ℕ
+frameLeft ws b = getD ws (leftWord b) 0
+
+abbrev pub frameAt : List ℕ → ℕ → Frame
+frameAt ws b = record {
+  kind = frameKind ws b;
+  function = frameFunction ws b;
+  node = frameNode ws b;
+  count = frameCount ws b;
+  value = frameValue ws b;
+  before = record { 0 = frameBefore ws b };
+  left = record { 0 = frameLeft ws b };
+}
+
+-- its locals, and its arguments
+abbrev pub frameLocals : List ℕ → ℕ → List ℕ
+frameLocals ws b = take (frameCount ws b) (drop (localsWord b) ws)
+
+abbrev pub frameArguments : List ℕ → ℕ → List ℕ
+frameArguments ws b = take (frameValue ws b) (drop (argumentsWord b) ws)
+
+-- WHAT IS WRITTEN. The first k locals, saved in a frame (document 02, P3): they stand there, and every other word is as it was
+abbrev pub saved : List ℕ → ℕ → List ℕ → ℕ → List ℕ
+saved ws b ls k = paste ws (localsWord b) ls k
+
+-- a new frame: its kind, function and node, the first k locals with their number, no value yet, and the span before the fork
 unfoldable pub pushed : List ℕ → ℕ → ℕ → ℕ → ℕ → ℕ → List ℕ → ℕ → List ℕ
-pushed ws d kind function node k ls before =
-    paste (set (set (set (set (set (set ws (kindWord d) kind) (functionWord d) function) (nodeWord d) node) (countWord d) k) (valueWord d) 0) (beforeWord d) before) (localsWord d) ls k
+pushed ws b kind function node k ls before =
+    saved (set (set (set (set (set (set ws b kind) (functionWord b) function) (nodeWord b) node) (countWord b) k) (valueWord b) 0) (beforeWord b) before) b ls k
 
--- frame d turned to its second child: another kind, the first child's value and the span of the left branch
+-- a frame turned to its second child: another kind, the first child's value and the span of the left branch
 unfoldable pub turned : List ℕ → ℕ → ℕ → ℕ → ℕ → List ℕ
-turned ws d kind v span = set (set (set ws (kindWord d) kind) (valueWord d) v) (leftWord d) span
+turned ws b kind v span = set (set (set ws b kind) (valueWord b) v) (leftWord b) span
 
--- argument n of frame d, and how many it has collected now
+-- argument n of a frame, and how many it has collected now
 unfoldable pub collected : List ℕ → ℕ → ℕ → ℕ → List ℕ
-collected ws d n v = set (set ws (argumentsWord d + n) v) (valueWord d) (n + 1)
+collected ws b n v = set (set ws (argumentsWord b + n) v) (valueWord b) (n + 1)
 
--- frame d promoted: another kind, and the span before the fork
+-- a frame promoted: another kind, and the span before the fork
 abbrev pub marked : List ℕ → ℕ → ℕ → ℕ → List ℕ
-marked ws d kind span = set (set ws (kindWord d) kind) (beforeWord d) span
+marked ws b kind span = set (set ws b kind) (beforeWord b) span
 
 -- k locals brought back from the words from `from` on
 abbrev pub loaded : List ℕ → List ℕ → ℕ → ℕ → List ℕ

@@ -1,6 +1,7 @@
-// The frames of a machine, in the words of a lent workspace: each function writes or reads the words of one frame.
+// The frames of a machine, in the words of a lent workspace. Each function is given the first word of a frame, b, and writes or reads the
+// words of that frame; which of them is which is known here alone.
 //
-// A frame is 32 words of 64 bits (document 01, refusal 11); frame d begins at word b = 32 * d:
+// A frame is 32 words of 64 bits (document 01, refusal 11):
 //
 //     b         its kind
 //     b + 1     the function of its node
@@ -12,33 +13,45 @@
 //     b + 8     the saved locals, at most 16
 //     b + 24    the collected arguments, at most 3
 //
-// The words b + 7 and b + 27 to b + 31 are not used. What a kind means is the machine's affair.
+// The words b + 7 and b + 27 to b + 31 are not used. What a kind means, and where each frame begins, is the machine's affair.
 
 use schedule::Span;
 ghost use mathlib.Core.Path.{_≡_};
 ghost use Prim.Native.Nat.{_+_, _*_, _<_, _≤_};
 ghost use lib.ListN.{length, drop, replicate};
 ghost use lib.Seq.{paste};
-ghost use Rattle.frames.specs.Frames.{localsWord, argumentsWord, pushed, turned, collected, marked, loaded, appended};
+ghost use Rattle.frames.specs.Frames.{localsWord, argumentsWord, frameAt, saved, pushed, turned, collected, marked, loaded, appended};
 
 // The words of a frame, and where its parts stand in it.
 pub const WORDS: usize = 32;
 
-pub const FUNCTION: usize = 1;
+const FUNCTION: usize = 1;
 
-pub const NODE: usize = 2;
+const NODE: usize = 2;
 
-pub const COUNT: usize = 3;
+const COUNT: usize = 3;
 
-pub const VALUE: usize = 4;
+const VALUE: usize = 4;
 
-pub const BEFORE: usize = 5;
+const BEFORE: usize = 5;
 
-pub const LEFT: usize = 6;
+const LEFT: usize = 6;
 
 pub const LOCALS: usize = 8;
 
-pub const ARGUMENTS: usize = 24;
+const ARGUMENTS: usize = 24;
+
+// What a frame holds beside the locals and the arguments.
+pub struct Frame {
+    pub kind: u64,
+    pub function: usize,
+    pub node: usize,
+    // How many locals it saves.
+    pub count: usize,
+    pub value: u64,
+    pub before: Span,
+    pub left: Span,
+}
 
 // Copies n words of `src`, from word `from` on, over those of `dst` from word `at` on, in a loop: compiled to a call of memcpy.
 fn copy_many(dst: &mut [u64], at: usize, src: &[u64], from: usize, n: usize)
@@ -76,10 +89,18 @@ pub fn copy(dst: &mut [u64], at: usize, src: &[u64], from: usize, n: usize)
     copy_many(dst, at + 4, src, from + 4, n - 4);
 }
 
-// Writes a new frame over the words of frame `depth`: it saves the first k locals and has no value yet.
+// Saves the first k locals in a frame.
+pub fn save_locals(ws: &mut [u64], b: usize, locals: &[u64], k: usize)
+    requires { ⌜ (b + 32 ≤ length (now ws)) × (k ≤ 16) × (length (now locals) ≡ 16) ⌝ }
+    ensures { λ _. ⌜ now (ws .exit) ≡ saved (now (ws .entry)) b (now (locals .entry)) k ⌝ }
+{
+    copy(ws, b + LOCALS, locals, 0, k);
+}
+
+// Writes a new frame: it saves the first k locals and has no value yet.
 pub fn push(
     ws: &mut [u64],
-    depth: usize,
+    b: usize,
     kind: u64,
     function: usize,
     node: usize,
@@ -87,65 +108,75 @@ pub fn push(
     locals: &[u64],
     before: Span,
 )
-    requires { ⌜ (32 * depth + 32 ≤ length (now ws)) × (k ≤ 16) × (length (now locals) ≡ 16) ⌝ }
-    ensures { λ _. ⌜ now (ws .exit) ≡ pushed (now (ws .entry)) depth kind function node k (now (locals .entry)) (before .0) ⌝ }
+    requires { ⌜ (b + 32 ≤ length (now ws)) × (k ≤ 16) × (length (now locals) ≡ 16) ⌝ }
+    ensures { λ _. ⌜ now (ws .exit) ≡ pushed (now (ws .entry)) b kind function node k (now (locals .entry)) (before .0) ⌝ }
 {
-    let b = WORDS * depth;
     ws[b] = kind;
     ws[b + FUNCTION] = function as u64;
     ws[b + NODE] = node as u64;
     ws[b + COUNT] = k as u64;
     ws[b + VALUE] = 0;
     ws[b + BEFORE] = before.0;
-    copy(ws, b + LOCALS, locals, 0, k);
+    save_locals(ws, b, locals, k);
 }
 
-// Turns frame `top` to its second child: another kind, the first child's value and, at a fork, the span of the left branch.
-pub fn turn(ws: &mut [u64], top: usize, kind: u64, v: u64, span: Span)
-    requires { ⌜ 32 * top + 32 ≤ length (now ws) ⌝ }
-    ensures { λ _. ⌜ now (ws .exit) ≡ turned (now (ws .entry)) top kind v (span .0) ⌝ }
+// Reads a frame.
+pub fn read(ws: &[u64], b: usize) -> Frame
+    requires { ⌜ b + 32 ≤ length (now ws) ⌝ }
+    ensures { λ r. ⌜ r ≡ frameAt (now (ws .entry)) b ⌝ }
 {
-    let b = WORDS * top;
+    Frame {
+        kind: ws[b],
+        function: ws[b + FUNCTION] as usize,
+        node: ws[b + NODE] as usize,
+        count: ws[b + COUNT] as usize,
+        value: ws[b + VALUE],
+        before: Span(ws[b + BEFORE]),
+        left: Span(ws[b + LEFT]),
+    }
+}
+
+// Turns a frame to its second child: another kind, the first child's value and, at a fork, the span of the left branch.
+pub fn turn(ws: &mut [u64], b: usize, kind: u64, v: u64, span: Span)
+    requires { ⌜ b + 32 ≤ length (now ws) ⌝ }
+    ensures { λ _. ⌜ now (ws .exit) ≡ turned (now (ws .entry)) b kind v (span .0) ⌝ }
+{
     ws[b] = kind;
     ws[b + VALUE] = v;
     ws[b + LEFT] = span.0;
 }
 
-// Collects v as argument n of frame `top`, which has collected those before it.
-pub fn collect(ws: &mut [u64], top: usize, n: usize, v: u64)
-    requires { ⌜ (32 * top + 32 ≤ length (now ws)) × (n < 3) ⌝ }
-    ensures { λ _. ⌜ now (ws .exit) ≡ collected (now (ws .entry)) top n v ⌝ }
+// Collects v as argument n of a frame, which has collected those before it.
+pub fn collect(ws: &mut [u64], b: usize, n: usize, v: u64)
+    requires { ⌜ (b + 32 ≤ length (now ws)) × (n < 3) ⌝ }
+    ensures { λ _. ⌜ now (ws .exit) ≡ collected (now (ws .entry)) b n v ⌝ }
 {
-    let b = WORDS * top;
     ws[b + ARGUMENTS + n] = v;
     ws[b + VALUE] = (n + 1) as u64;
 }
 
-// Promotes frame `at`: another kind, and the span before the fork.
-pub fn mark(ws: &mut [u64], at: usize, kind: u64, span: Span)
-    requires { ⌜ 32 * at + 32 ≤ length (now ws) ⌝ }
-    ensures { λ _. ⌜ now (ws .exit) ≡ marked (now (ws .entry)) at kind (span .0) ⌝ }
+// Promotes a frame: another kind, and the span before the fork.
+pub fn mark(ws: &mut [u64], b: usize, kind: u64, span: Span)
+    requires { ⌜ b + 32 ≤ length (now ws) ⌝ }
+    ensures { λ _. ⌜ now (ws .exit) ≡ marked (now (ws .entry)) b kind (span .0) ⌝ }
 {
-    let b = WORDS * at;
     ws[b] = kind;
     ws[b + BEFORE] = span.0;
 }
 
-// Brings the k locals that frame `top` saves back.
-pub fn load(locals: &mut [u64], ws: &[u64], top: usize, k: usize)
-    requires { ⌜ (32 * top + 32 ≤ length (now ws)) × (k ≤ 16) × (length (now locals) ≡ 16) ⌝ }
-    ensures { λ _. ⌜ now (locals .exit) ≡ loaded (now (locals .entry)) (now (ws .entry)) (localsWord top) k ⌝ }
+// Brings the k locals that a frame saves back.
+pub fn load_locals(locals: &mut [u64], ws: &[u64], b: usize, k: usize)
+    requires { ⌜ (b + 32 ≤ length (now ws)) × (k ≤ 16) × (length (now locals) ≡ 16) ⌝ }
+    ensures { λ _. ⌜ now (locals .exit) ≡ loaded (now (locals .entry)) (now (ws .entry)) (localsWord b) k ⌝ }
 {
-    let b = WORDS * top;
     copy(locals, 0, ws, b + LOCALS, k);
 }
 
-// Makes the n arguments that frame `top` has collected the first locals.
-pub fn load_arguments(locals: &mut [u64], ws: &[u64], top: usize, n: usize)
-    requires { ⌜ (32 * top + 32 ≤ length (now ws)) × (n ≤ 3) × (length (now locals) ≡ 16) ⌝ }
-    ensures { λ _. ⌜ now (locals .exit) ≡ loaded (now (locals .entry)) (now (ws .entry)) (argumentsWord top) n ⌝ }
+// Makes the n arguments that a frame has collected the first locals.
+pub fn load_arguments(locals: &mut [u64], ws: &[u64], b: usize, n: usize)
+    requires { ⌜ (b + 32 ≤ length (now ws)) × (n ≤ 3) × (length (now locals) ≡ 16) ⌝ }
+    ensures { λ _. ⌜ now (locals .exit) ≡ loaded (now (locals .entry)) (now (ws .entry)) (argumentsWord b) n ⌝ }
 {
-    let b = WORDS * top;
     copy(locals, 0, ws, b + ARGUMENTS, n);
 }
 

@@ -9,27 +9,28 @@ use mathlib.Core.List.{List}
 use mathlib.Core.Bool.{Bool, true, false, cond}
 use native.Mathlib.Omega.{arith}
 use native.Mathlib.Decide.{decLt}
-use lib.ListN.{getD, take}
+use lib.ListN.{take}
 use lib.Dec.{eqb}
 use borrow.Author.Tests.{lt-ltb, le-ltb, eq-eqb, ne-eqb}
+use Rattle.frames.specs.Frames.{frameKind}
+use Rattle.frames.proofs.Words.{same-word}
 use Rattle.moves.specs.Layout.{oldestWith, oldestWithout}
 use Rattle.moves.specs.Ready.{Oldest}
-use Rattle.moves.proofs.Stacks.{same-word}
 
 module _ (ws ws′ : List ℕ) (d : ℕ) (e : take (32 * d) ws ≡ take (32 * d) ws′) where
-  kind-same : (j : ℕ) → j < d → getD ws′ (32 * j) 0 ≡ getD ws (32 * j) 0
+  kind-same : (j : ℕ) → j < d → frameKind ws′ (32 * j) ≡ frameKind ws (32 * j)
   kind-same j h = sym (same-word ws ws′ (32 * d) e (32 * j) (omega arith))
 
-  below-more : (o : ℕ) → ((j : ℕ) → j < d → j < o → getD ws (32 * j) 0 ≡ 5 → ⊥) → (d < o → getD ws′ (32 * d) 0 ≡ 5 → ⊥)
-      → (j : ℕ) → j < d + 1 → j < o → getD ws′ (32 * j) 0 ≡ 5 → ⊥
+  below-more : (o : ℕ) → ((j : ℕ) → j < d → j < o → frameKind ws (32 * j) ≡ 5 → ⊥) → (d < o → frameKind ws′ (32 * d) ≡ 5 → ⊥)
+      → (j : ℕ) → j < d + 1 → j < o → frameKind ws′ (32 * j) ≡ 5 → ⊥
   below-more o b n j h g x = at (decLt j d)
     where
       at : Dec (j < d) → ⊥
       at (yes l) = b j l g (sym (kind-same j l) ∙ x)
       at (no l) = let y : j ≡ d = omega arith in n (omega arith) (rw y at x)
 
-  past-more : (o : ℕ) → ((j : ℕ) → j < d → 7 ≤ getD ws (32 * j) 0 → j < o) → (7 ≤ getD ws′ (32 * d) 0 → d < o)
-      → (j : ℕ) → j < d + 1 → 7 ≤ getD ws′ (32 * j) 0 → j < o
+  past-more : (o : ℕ) → ((j : ℕ) → j < d → 7 ≤ frameKind ws (32 * j) → j < o) → (7 ≤ frameKind ws′ (32 * d) → d < o)
+      → (j : ℕ) → j < d + 1 → 7 ≤ frameKind ws′ (32 * j) → j < o
   past-more o b n j h x = at (decLt j d)
     where
       at : Dec (j < d) → j < o
@@ -37,7 +38,7 @@ module _ (ws ws′ : List ℕ) (d : ℕ) (e : take (32 * d) ws ≡ take (32 * d)
       at (no l) = let y : j ≡ d = omega arith in rw y (n (rw y at x))
 
   -- the newest is no plain fork that awaits its left
-  pub oldest-other : (o : ℕ) → d < 4096 → Oldest ws d o → (getD ws′ (32 * d) 0 ≡ 5 → ⊥) → (7 ≤ getD ws′ (32 * d) 0 → d < o) → Oldest ws′ (d + 1) o
+  pub oldest-other : (o : ℕ) → d < 4096 → Oldest ws d o → (frameKind ws′ (32 * d) ≡ 5 → ⊥) → (7 ≤ frameKind ws′ (32 * d) → d < o) → Oldest ws′ (d + 1) o
   oldest-other o h r n p = record {
     below = below-more o (r .below) (λ g. n);
     is = λ g. at g (decLt o d);
@@ -45,12 +46,12 @@ module _ (ws ws′ : List ℕ) (d : ℕ) (e : take (32 * d) ws ≡ take (32 * d)
     past = past-more o (r .past) p;
   }
     where
-      at : o < d + 1 → Dec (o < d) → getD ws′ (32 * o) 0 ≡ 5
+      at : o < d + 1 → Dec (o < d) → frameKind ws′ (32 * o) ≡ 5
       at g (yes l) = kind-same o l ∙ r .is l
       at g (no l) = absurd (omega (arith, r .none (omega arith)))
 
   -- the newest is one
-  pub oldest-with : (o : ℕ) → Oldest ws d o → getD ws′ (32 * d) 0 ≡ 5 → Oldest ws′ (d + 1) (oldestWith o d)
+  pub oldest-with : (o : ℕ) → Oldest ws d o → frameKind ws′ (32 * d) ≡ 5 → Oldest ws′ (d + 1) (oldestWith o d)
   oldest-with o r n = at (decLt o d)
     where
       at : Dec (o < d) → Oldest ws′ (d + 1) (oldestWith o d)
@@ -68,7 +69,7 @@ module _ (ws ws′ : List ℕ) (d : ℕ) (e : take (32 * d) ws ≡ take (32 * d)
       })
 
 -- below the newest, which is none
-pub oldest-under : (ws : List ℕ) (d o : ℕ) → Oldest ws (d + 1) o → (getD ws (32 * d) 0 ≡ 5 → ⊥) → Oldest ws d o
+pub oldest-under : (ws : List ℕ) (d o : ℕ) → Oldest ws (d + 1) o → (frameKind ws (32 * d) ≡ 5 → ⊥) → Oldest ws d o
 oldest-under ws d o r n = record {
   below = λ j a b. r .below j (omega arith) b;
   is = λ g. r .is (omega arith);
@@ -111,8 +112,8 @@ without-none o t e = at (eqb o t)
     at true = refl
     at false = e
 
-pub found-more : (ws : List ℕ) (from i : ℕ) → ((j : ℕ) → from ≤ j → j < i → getD ws (32 * j) 0 ≡ 5 → ⊥) → (getD ws (32 * i) 0 ≡ 5 → ⊥)
-    → (j : ℕ) → from ≤ j → j < i + 1 → getD ws (32 * j) 0 ≡ 5 → ⊥
+pub found-more : (ws : List ℕ) (from i : ℕ) → ((j : ℕ) → from ≤ j → j < i → frameKind ws (32 * j) ≡ 5 → ⊥) → (frameKind ws (32 * i) ≡ 5 → ⊥)
+    → (j : ℕ) → from ≤ j → j < i + 1 → frameKind ws (32 * j) ≡ 5 → ⊥
 found-more ws from i b n j h g x = at (decLt j i)
   where
     at : Dec (j < i) → ⊥

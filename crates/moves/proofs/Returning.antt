@@ -16,7 +16,8 @@ use Rattle.schedule.specs.Bounds.{total, kept-spans}
 use Rattle.table.specs.Words.{functions, arityAt, startOf, tagAt, aAt, bAt}
 use Rattle.table.specs.Nodes.{nodeAt}
 use Rattle.table.specs.Read.{startsOf}
-use Rattle.frames.specs.Frames.{turned, collected, loaded, appended}
+use Rattle.frames.specs.declared.Frame.{Frame as FrameRead}
+use Rattle.frames.specs.Frames.{frameAt, localsWord, argumentsWord, frameKind, frameFunction, frameNode, frameCount, frameValue, frameBefore, frameLeft, frameLocals, frameArguments, turned, collected, loaded, appended}
 use Rattle.frames.proofs.Writes.{Turned, Loaded, is-turned, is-collected, is-loaded, is-appended}
 use Rattle.table.specs.declared.Operation.{Operation}
 use Rattle.table.specs.declared.Node.the-variants.{Arithmetic}
@@ -31,7 +32,7 @@ use Rattle.moves.specs.declared.Plan.{Plan}
 use Rattle.moves.specs.declared.Seat.{Seat}
 use Rattle.moves.specs.declared.Step.{Step}
 use Rattle.moves.specs.declared.Step.the-variants.{Go, Value}
-use Rattle.moves.specs.Layout.{codeAt, argumentsAt, slots, slotOf, slotAt, stackOf, controlOf, runCountsOf, stateOf, resultOf, ticked, restarted, oldestWithout, halted}
+use Rattle.moves.specs.Layout.{codeAt, slots, slotOf, slotAt, stackOf, controlOf, runCountsOf, stateOf, resultOf, ticked, restarted, oldestWithout, halted}
 use Rattle.moves.specs.Ready.{Stands, tagOf, Fitting, FittingAt, Held, Controlled, Oldest, Kept, Ready, Paid, KeptBy, Stepped, Returns, Sitting, Child, Concluded, Operand, calledAt, stepOf, operationOf, operation, Resumed, resumes, stays}
 use Rattle.moves.proofs.Nodes.{start-is, arithmetic-in, operation-in, choose-in, let-in, both-in, called-in, argument-later, enter}
 use Rattle.moves.proofs.Frames.{frame-locals, body-locals}
@@ -66,27 +67,27 @@ module _ (w ws ls : List ℕ) (plan : Plan) (s : Registers) (v t kind : ℕ) (q 
   oldest-here : Oldest ws (t + 1) (s .oldest)
   oldest-here = rw (q .depth) at (r .kept .oldest)
 
-  pub tag-here : tagAt w (startOf w (getD ws (32 * t + 1) 0)) (getD ws (32 * t + 2) 0) ≡ tagOf kind
+  pub tag-here : tagAt w (startOf w (frameFunction ws (32 * t))) (frameNode ws (32 * t)) ≡ tagOf kind
   tag-here = rw (q .of-kind) at (top .tag)
 
-  pub sitting : Sitting w ws ls t
+  pub sitting : Sitting w ws ls (32 * t)
   sitting = record { table = r .kept .table; room = room; sixteen = r .kept .sixteen; stands = top .stands }
 
-  pub sitting-turned : (kind′ g : ℕ) (ws′ : List ℕ) → length ws′ ≡ length ws → ws′ ≡ turned ws t kind′ v g → Sitting w ws′ ls t
-  sitting-turned kind′ g ws′ long e = let u = is-turned ws ws′ t room kind′ v g e in record { table = r .kept .table; room = omega (arith, room); sixteen = r .kept .sixteen; stands = rw (u .is-function, u .is-node, u .is-count) (top .stands) }
+  pub sitting-turned : (kind′ g : ℕ) (ws′ : List ℕ) → length ws′ ≡ length ws → ws′ ≡ turned ws (32 * t) kind′ v g → Sitting w ws′ ls (32 * t)
+  sitting-turned kind′ g ws′ long e = let u = is-turned ws ws′ (32 * t) room kind′ v g e in record { table = r .kept .table; room = omega (arith, room); sixteen = r .kept .sixteen; stands = rw (u .is-function, u .is-node, u .is-count) (top .stands) }
 
-  pub sitting-collected : (n : ℕ) → n < 3 → (ws′ : List ℕ) → length ws′ ≡ length ws → ws′ ≡ collected ws t n v → Sitting w ws′ ls t
-  sitting-collected n few ws′ long e = let u = is-collected ws ws′ t room n v few e in record { table = r .kept .table; room = omega (arith, room); sixteen = r .kept .sixteen; stands = rw (u .is-function, u .is-node, u .is-count) (top .stands) }
+  pub sitting-collected : (n : ℕ) → n < 3 → (ws′ : List ℕ) → length ws′ ≡ length ws → ws′ ≡ collected ws (32 * t) n v → Sitting w ws′ ls (32 * t)
+  sitting-collected n few ws′ long e = let u = is-collected ws ws′ (32 * t) room n v few e in record { table = r .kept .table; room = omega (arith, room); sixteen = r .kept .sixteen; stands = rw (u .is-function, u .is-node, u .is-count) (top .stands) }
 
   -- the move, by the slot that the words hold
   abbrev from : Slot ℕ Frame Code → Result K (language w)
   from x = move K (language w) (plan .fuel .0) cap (plan .birth) (state (return v) (x ∷ stackOf ws t) (s .credits .0) (s .span .0) (runCountsOf s))
 
-  slot-is : slotAt ws (32 * t) ≡ slotOf kind code (getD ws (32 * t + 4) 0) (argumentsAt ws (32 * t)) (getD ws (32 * t + 5) 0) (getD ws (32 * t + 6) 0)
+  slot-is : slotAt ws (32 * t) ≡ slotOf kind code (frameValue ws (32 * t)) (frameArguments ws (32 * t)) (frameBefore ws (32 * t)) (frameLeft ws (32 * t))
   slot-is = rw (q .of-kind)
 
   returned : move K (language w) (plan .fuel .0) cap (plan .birth) (stateOf w (plan .tau) ws ls s)
-      ≡ from (slotOf kind code (getD ws (32 * t + 4) 0) (argumentsAt ws (32 * t)) (getD ws (32 * t + 5) 0) (getD ws (32 * t + 6) 0))
+      ≡ from (slotOf kind code (frameValue ws (32 * t)) (frameArguments ws (32 * t)) (frameBefore ws (32 * t)) (frameLeft ws (32 * t)))
   unfolding controlOf
   returned = rw (q .is, q .depth, ← stack-more ws t, slot-is)
 
@@ -120,27 +121,27 @@ module _ (w ws ls : List ℕ) (plan : Plan) (s : Registers) (v t kind : ℕ) (q 
   }
 
   closed : (ls′ : List ℕ) (c : Control) (d : FlatControl Code) → controlOf c ls′ ≡ d → length ls′ ≡ 16 → Controlled w c → (kind ≡ 5 → ⊥)
-      → from (slotOf kind code (getD ws (32 * t + 4) 0) (argumentsAt ws (32 * t)) (getD ws (32 * t + 5) 0) (getD ws (32 * t + 6) 0)) ≡ to d (stackOf ws t)
+      → from (slotOf kind code (frameValue ws (32 * t)) (frameArguments ws (32 * t)) (frameBefore ws (32 * t)) (frameLeft ws (32 * t))) ≡ to d (stackOf ws t)
       → (n : Registers) → n ≡ ticked s c t (s .oldest) → Stepped w ws ls plan s ws ls′ (Go n)
   unfolding resultOf KeptBy
   closed ls′ c d x l h k m n u = rw u (record { same = returned ∙ m ∙ rw x; kept = closed-kept ls′ c l h k })
 
   -- a child of the frame's node, with the frame's locals
   module _ (last : Bool) (ls′ : List ℕ) (seat : Seat) (h : Child w ws ls (32 * t) last ls′ seat) where
-    child-locals : Loaded ws (32 * t + 8) (getD ws (32 * t + 3) 0) ls′
-    child-locals = frame-locals w ws ls t sitting ls′ (h .locals)
+    child-locals : Loaded ws (localsWord (32 * t)) (frameCount ws (32 * t)) ls′
+    child-locals = frame-locals w ws ls (32 * t) sitting ls′ (h .locals)
 
     child-code : controlOf (Eval (seat .function) (seat .node) (seat .count)) ls′ ≡ evaluate (at code (cond last (third w code) (second w code)) (code .locals))
     unfolding controlOf
     child-code = rw (h .seat, child-locals .are)
 
   -- a frame turned to its second child
-  module _ (kind′ g : ℕ) (ws′ ls′ : List ℕ) (seat : Seat) (long : length ws′ ≡ length ws) (e : ws′ ≡ turned ws t kind′ v g) (h : Child w ws′ ls (32 * t) false ls′ seat) where
-    turned-words : Turned ws ws′ t kind′ v g
-    turned-words = is-turned ws ws′ t room kind′ v g e
+  module _ (kind′ g : ℕ) (ws′ ls′ : List ℕ) (seat : Seat) (long : length ws′ ≡ length ws) (e : ws′ ≡ turned ws (32 * t) kind′ v g) (h : Child w ws′ ls (32 * t) false ls′ seat) where
+    turned-words : Turned ws ws′ (32 * t) kind′ v g
+    turned-words = is-turned ws ws′ (32 * t) room kind′ v g e
 
-    turned-locals : Loaded ws′ (32 * t + 8) (getD ws′ (32 * t + 3) 0) ls′
-    turned-locals = frame-locals w ws′ ls t (sitting-turned kind′ g ws′ long e) ls′ (h .locals)
+    turned-locals : Loaded ws′ (localsWord (32 * t)) (frameCount ws′ (32 * t)) ls′
+    turned-locals = frame-locals w ws′ ls (32 * t) (sitting-turned kind′ g ws′ long e) ls′ (h .locals)
 
     turned-below : (stackOf ws t ≡ stackOf ws′ t) × Held w ws′ t
     turned-below = same-slots w ws ws′ (r .kept .table) long t (sym (turned-words .below)) (omega (arith, room)) rest
@@ -149,14 +150,14 @@ module _ (w ws ls : List ℕ) (plan : Plan) (s : Registers) (v t kind : ℕ) (q 
     unfolding controlOf
     turned-code = rw (h .seat, turned-locals .are, turned-words .is-function, turned-words .is-node, turned-words .is-count, turned-words .above)
 
-    turned-stack : (x : Slot ℕ Frame Code) → ((vs : List ℕ) → slotOf kind′ code v vs (getD ws (32 * t + 5) 0) g ≡ x) → stackOf ws′ (t + 1) ≡ x ∷ stackOf ws t
+    turned-stack : (x : Slot ℕ Frame Code) → ((vs : List ℕ) → slotOf kind′ code v vs (frameBefore ws (32 * t)) g ≡ x) → stackOf ws′ (t + 1) ≡ x ∷ stackOf ws t
     turned-stack x k =
-        let y : slotAt ws′ (32 * t) ≡ slotOf kind′ code v (argumentsAt ws′ (32 * t)) (getD ws (32 * t + 5) 0) g =
+        let y : slotAt ws′ (32 * t) ≡ slotOf kind′ code v (frameArguments ws′ (32 * t)) (frameBefore ws (32 * t)) g =
         rw (turned-words .is-kind, turned-words .is-function, turned-words .is-node, turned-words .is-count, turned-words .is-value, turned-words .is-before, turned-words .is-branch, turned-words .above) in
-        sym (stack-more ws′ t) ∙ rw (y, k (argumentsAt ws′ (32 * t)), turned-below .0)
+        sym (stack-more ws′ t) ∙ rw (y, k (frameArguments ws′ (32 * t)), turned-below .0)
 
-    turned-kept : (o : ℕ) → Fitting w kind′ (getD ws (32 * t + 1) 0) (getD ws (32 * t + 2) 0) (getD ws (32 * t + 3) 0) v
-        → Stands w (getD ws (32 * t + 1) 0) (second w code) (getD ws (32 * t + 3) 0) → Oldest ws′ (t + 1) o → (plan .birth ≡ true → o ≡ 4096)
+    turned-kept : (o : ℕ) → Fitting w kind′ (frameFunction ws (32 * t)) (frameNode ws (32 * t)) (frameCount ws (32 * t)) v
+        → Stands w (frameFunction ws (32 * t)) (second w code) (frameCount ws (32 * t)) → Oldest ws′ (t + 1) o → (plan .birth ≡ true → o ≡ 4096)
         → Kept w ws′ ls′ (plan .birth) (Eval (seat .function) (seat .node) (seat .count)) (t + 1) o
     unfolding Controlled
     turned-kept o ok child old bo = record {
@@ -196,7 +197,7 @@ either w f k x y false a c = c
 
 module _ (w ws ls : List ℕ) (plan : Plan) (s : Registers) (v t : ℕ) where
   -- a left operand, or a left value: the frame turns
-  pub stepped-left-operand : (q : Returns w ws ls plan s v t 0) → Paid plan s → (ws′ ls′ : List ℕ) (seat : Seat) → length ws′ ≡ length ws → ws′ ≡ turned ws t 1 v 0 → Child w ws′ ls (32 * t) false ls′ seat
+  pub stepped-left-operand : (q : Returns w ws ls plan s v t 0) → Paid plan s → (ws′ ls′ : List ℕ) (seat : Seat) → length ws′ ≡ length ws → ws′ ≡ turned ws (32 * t) 1 v 0 → Child w ws′ ls (32 * t) false ls′ seat
       → (n : Registers) → n ≡ ticked s (Eval (seat .function) (seat .node) (seat .count)) (t + 1) (s .oldest) → Stepped w ws ls plan s ws′ ls′ (Go n)
   unfolding slotOf arrive resultOf KeptBy
   stepped-left-operand q paid ws′ ls′ seat long u h n e =
@@ -210,7 +211,7 @@ module _ (w ws ls : List ℕ) (plan : Plan) (s : Registers) (v t : ℕ) where
             (oldest-turned w ws ls plan s v t 0 q 1 0 ws′ ls′ seat long u h (λ z. omega arith) (λ z. omega arith) (λ z. absurd (omega arith))) (q .ready .kept .born);
       })
 
-  pub stepped-plain-left : (q : Returns w ws ls plan s v t 5) → Paid plan s → (ws′ ls′ : List ℕ) (seat : Seat) → length ws′ ≡ length ws → ws′ ≡ turned ws t 6 v 0 → Child w ws′ ls (32 * t) false ls′ seat
+  pub stepped-plain-left : (q : Returns w ws ls plan s v t 5) → Paid plan s → (ws′ ls′ : List ℕ) (seat : Seat) → length ws′ ≡ length ws → ws′ ≡ turned ws (32 * t) 6 v 0 → Child w ws′ ls (32 * t) false ls′ seat
       → (o : ℕ) → o ≡ oldestWithout (s .oldest) t → (n : Registers) → n ≡ ticked s (Eval (seat .function) (seat .node) (seat .count)) (t + 1) o → Stepped w ws ls plan s ws′ ls′ (Go n)
   unfolding slotOf move with-fuel resultOf KeptBy
   stepped-plain-left q paid ws′ ls′ seat long u h o m n e =
@@ -226,7 +227,7 @@ module _ (w ws ls : List ℕ) (plan : Plan) (s : Registers) (v t : ℕ) where
             (λ z. without-none (s .oldest) t (q .ready .kept .born z));
       })
 
-  pub stepped-turn : (q : Returns w ws ls plan s v t 7) → (ws′ ls′ : List ℕ) (seat : Seat) → length ws′ ≡ length ws → ws′ ≡ turned ws t 8 v (s .span .0) → Child w ws′ ls (32 * t) false ls′ seat
+  pub stepped-turn : (q : Returns w ws ls plan s v t 7) → (ws′ ls′ : List ℕ) (seat : Seat) → length ws′ ≡ length ws → ws′ ≡ turned ws (32 * t) 8 v (s .span .0) → Child w ws′ ls (32 * t) false ls′ seat
       → (n : Registers) → n ≡ restarted s (Eval (seat .function) (seat .node) (seat .count)) (t + 1) (s .oldest) 0 (s .forks) → Stepped w ws ls plan s ws′ ls′ (Go n)
   unfolding slotOf move resultOf KeptBy
   stepped-turn q ws′ ls′ seat long u h n e =
@@ -235,7 +236,7 @@ module _ (w ws ls : List ℕ) (plan : Plan) (s : Registers) (v t : ℕ) where
       let table = q .ready .kept .table in
       rw e (record {
         same = returned w ws ls plan s v t 7 q
-            ∙ rw (turned-code w ws ls plan s v t 7 q 8 (s .span .0) ws′ ls′ seat long u h, turned-stack w ws ls plan s v t 7 q 8 (s .span .0) ws′ ls′ seat long u h (promoted-right (getD ws (32 * t + 5) 0) (s .span .0) (codeAt ws (32 * t)) v) (λ vs. refl));
+            ∙ rw (turned-code w ws ls plan s v t 7 q 8 (s .span .0) ws′ ls′ seat long u h, turned-stack w ws ls plan s v t 7 q 8 (s .span .0) ws′ ls′ seat long u h (promoted-right (frameBefore ws (32 * t)) (s .span .0) (codeAt ws (32 * t)) v) (λ vs. refl));
         kept = turned-kept w ws ls plan s v t 7 q 8 (s .span .0) ws′ ls′ seat long u h (s .oldest) (record { stands = fit .stands; tag = tag; awaits = λ y. absurd (omega arith) }) (both-in w table (fit .stands) tag .2)
             (oldest-turned w ws ls plan s v t 7 q 8 (s .span .0) ws′ ls′ seat long u h (λ z. omega arith) (λ z. omega arith) (λ z. omega arith)) (q .ready .kept .born);
       })
@@ -248,10 +249,10 @@ module _ (w ws ls : List ℕ) (plan : Plan) (s : Registers) (v t : ℕ) where
       closed w ws ls plan s v t 2 q ls′ (Eval (seat .function) (seat .node) (seat .count)) _ (child-code w ws ls plan s v t 2 q (eqb v 0) ls′ seat h) (child-locals w ws ls plan s v t 2 q (eqb v 0) ls′ seat h .sixteen)
       (rw (h .seat) (either w _ _ _ _ (eqb v 0) (a .2) (a .1))) (λ x. omega arith) (closes w ws ls plan s v t 2 q paid (condition (codeAt ws (32 * t))) _ refl) n e
 
-  pub binding-few : (q : Returns w ws ls plan s v t 3) → getD ws (32 * t + 3) 0 + 1 ≤ 16
+  pub binding-few : (q : Returns w ws ls plan s v t 3) → frameCount ws (32 * t) + 1 ≤ 16
   binding-few q = let-in w (q .ready .kept .table) (top w ws ls plan s v t 3 q .stands) (tag-here w ws ls plan s v t 3 q) .0
 
-  pub plain-few : (q : Returns w ws ls plan s v t 6) → getD ws (32 * t + 3) 0 + 2 ≤ 16
+  pub plain-few : (q : Returns w ws ls plan s v t 6) → frameCount ws (32 * t) + 2 ≤ 16
   plain-few q = both-in w (q .ready .kept .table) (top w ws ls plan s v t 6 q .stands) (tag-here w ws ls plan s v t 6 q) .0
 
   pub stepped-binding : (q : Returns w ws ls plan s v t 3) → Paid plan s → (ls₁ ls₂ : List ℕ) (seat : Seat) → Child w ws ls (32 * t) false ls₁ seat → ls₂ ≡ appended ls₁ (seat .count) v
@@ -259,18 +260,18 @@ module _ (w ws ls : List ℕ) (plan : Plan) (s : Registers) (v t : ℕ) where
   unfolding slotOf arrive Controlled controlOf
   stepped-binding q paid ls₁ ls₂ seat h x n e =
       let l = child-locals w ws ls plan s v t 3 q false ls₁ seat h in
-      let k : seat .count ≡ getD ws (32 * t + 3) 0 = ap (λ (z : Seat). z .count) (h .seat) in
+      let k : seat .count ≡ frameCount ws (32 * t) = ap (λ (z : Seat). z .count) (h .seat) in
       let a = is-appended ls₁ ls₂ (seat .count) v (omega (arith, binding-few q)) (l .sixteen) x in
       let b = let-in w (q .ready .kept .table) (top w ws ls plan s v t 3 q .stands) (tag-here w ws ls plan s v t 3 q) in
       closed w ws ls plan s v t 3 q ls₂ (Eval (seat .function) (seat .node) (seat .count + 1)) _ (rw (a .are, h .seat, l .are)) (a .sixteen)
       (rw (h .seat) (b .2)) (λ x. omega arith) (closes w ws ls plan s v t 3 q paid (binding (codeAt ws (32 * t))) _ refl) n e
 
   -- the body of a fork's node
-  module _ (kind : ℕ) (q : Returns w ws ls plan s v t kind) (up : 6 ≤ kind) (few : getD ws (32 * t + 3) 0 + 2 ≤ 16) (ls′ : List ℕ) (c : Control) (h : Concluded w ws ls (32 * t) v ls′ c) where
-    both-locals : (length ls′ ≡ 16) × (take (getD ws (32 * t + 3) 0 + 2) ls′ ≡ take (getD ws (32 * t + 3) 0) (drop (32 * t + 8) ws) ++ (getD ws (32 * t + 4) 0 ∷ v ∷ []))
-    both-locals = body-locals w ws ls t (sitting w ws ls plan s v t kind q) few (getD ws (32 * t + 4) 0) v ls′ (h .locals)
+  module _ (kind : ℕ) (q : Returns w ws ls plan s v t kind) (up : 6 ≤ kind) (few : frameCount ws (32 * t) + 2 ≤ 16) (ls′ : List ℕ) (c : Control) (h : Concluded w ws ls (32 * t) v ls′ c) where
+    both-locals : (length ls′ ≡ 16) × (take (frameCount ws (32 * t) + 2) ls′ ≡ frameLocals ws (32 * t) ++ (frameValue ws (32 * t) ∷ v ∷ []))
+    both-locals = body-locals w ws ls (32 * t) (sitting w ws ls plan s v t kind q) few (frameValue ws (32 * t)) v ls′ (h .locals)
 
-    body-code : controlOf c ls′ ≡ evaluate (at (codeAt ws (32 * t)) (third w (codeAt ws (32 * t))) (codeAt ws (32 * t) .locals ++ (getD ws (32 * t + 4) 0 ∷ v ∷ [])))
+    body-code : controlOf c ls′ ≡ evaluate (at (codeAt ws (32 * t)) (third w (codeAt ws (32 * t))) (codeAt ws (32 * t) .locals ++ (frameValue ws (32 * t) ∷ v ∷ [])))
     unfolding controlOf
     body-code = rw (h .is, both-locals .1)
 
@@ -296,38 +297,38 @@ module _ (w ws ls : List ℕ) (plan : Plan) (s : Registers) (v t : ℕ) where
   late-tag kind h = let k : 5 ≤ kind = omega arith in List·getD-eq-default (2 ∷ 2 ∷ 3 ∷ 4 ∷ 5 ∷ []) 6 k
 
   module _ (kind : ℕ) (q : Returns w ws ls plan s v t kind) (late : 8 ≤ kind) where
-    pub both-few : getD ws (32 * t + 3) 0 + 2 ≤ 16
+    pub both-few : frameCount ws (32 * t) + 2 ≤ 16
     both-few = both-in w (q .ready .kept .table) (top w ws ls plan s v t kind q .stands) (tag-here w ws ls plan s v t kind q ∙ late-tag kind late) .0
 
-    stack-late : stackOf ws (s .depth) ≡ promoted-right (getD ws (32 * t + 5) 0) (getD ws (32 * t + 6) 0) (codeAt ws (32 * t)) (getD ws (32 * t + 4) 0) ∷ stackOf ws t
-    stack-late = rw (q .depth, ← stack-more ws t, slot-is w ws ls plan s v t kind q, late-slot kind late (codeAt ws (32 * t)) (getD ws (32 * t + 4) 0) (argumentsAt ws (32 * t)) (getD ws (32 * t + 5) 0) (getD ws (32 * t + 6) 0))
+    stack-late : stackOf ws (s .depth) ≡ promoted-right (frameBefore ws (32 * t)) (frameLeft ws (32 * t)) (codeAt ws (32 * t)) (frameValue ws (32 * t)) ∷ stackOf ws t
+    stack-late = rw (q .depth, ← stack-more ws t, slot-is w ws ls plan s v t kind q, late-slot kind late (codeAt ws (32 * t)) (frameValue ws (32 * t)) (frameArguments ws (32 * t)) (frameBefore ws (32 * t)) (frameLeft ws (32 * t)))
 
     -- what a join adds up
-    pub join-fits : (getD ws (32 * t + 5) 0 < 2 ^ 60) × (plan .tau ≤ 10000) × (getD ws (32 * t + 6) 0 < 2 ^ 60) × (s .span .0 < 2 ^ 60)
+    pub join-fits : (frameBefore ws (32 * t) < 2 ^ 60) × (plan .tau ≤ 10000) × (frameLeft ws (32 * t) < 2 ^ 60) × (s .span .0 < 2 ^ 60)
     unfolding total kept-spans
     join-fits =
         let x = rw stack-late at (q .ready .bounded .costs) in
         omega (arith, x, q .ready .bounded .within-fuel, q .ready .bounded .forks, q .ready .limits .fuel, q .ready .limits .tau, q .ready .limits .frames)
 
-    pub stepped-join : (ls′ : List ℕ) (c : Control) → Concluded w ws ls (32 * t) v ls′ c → (m : ℕ) → m ≡ getD ws (32 * t + 5) 0 + (plan .tau + max (getD ws (32 * t + 6) 0) (s .span .0))
+    pub stepped-join : (ls′ : List ℕ) (c : Control) → Concluded w ws ls (32 * t) v ls′ c → (m : ℕ) → m ≡ frameBefore ws (32 * t) + (plan .tau + max (frameLeft ws (32 * t)) (s .span .0))
         → (n : Registers) → n ≡ restarted s c t (s .oldest) m (s .forks) → Stepped w ws ls plan s ws ls′ (Go n)
     unfolding move resultOf KeptBy
     stepped-join ls′ c h m x n e = rw (e, x) (record {
       same = returned w ws ls plan s v t kind q
-          ∙ rw (late-slot kind late (codeAt ws (32 * t)) (getD ws (32 * t + 4) 0) (argumentsAt ws (32 * t)) (getD ws (32 * t + 5) 0) (getD ws (32 * t + 6) 0), body-code kind q (omega arith) both-few ls′ c h);
+          ∙ rw (late-slot kind late (codeAt ws (32 * t)) (frameValue ws (32 * t)) (frameArguments ws (32 * t)) (frameBefore ws (32 * t)) (frameLeft ws (32 * t)), body-code kind q (omega arith) both-few ls′ c h);
       kept = body-kept kind q (omega arith) both-few ls′ c h (late-tag kind late);
     })
 
   -- the function that a call's frame calls, read through the array of starts
-  module _ (q : Returns w ws ls plan s v t 4) (starts : List ℕ) (e : starts ≡ startsOf w) (f p : ℕ) (is-f : f ≡ getD ws (32 * t + 1) 0) (is-p : p ≡ getD ws (32 * t + 2) 0) (g : ℕ) (is-g : g ≡ aAt w (getD starts f 0) p) where
+  module _ (q : Returns w ws ls plan s v t 4) (starts : List ℕ) (e : starts ≡ startsOf w) (r : FrameRead) (is : r ≡ frameAt ws (32 * t)) (g : ℕ) (is-g : g ≡ aAt w (getD starts (r .function) 0) (r .node)) where
     pub called-here : g ≡ calledAt w ws (32 * t)
-    called-here = is-g ∙ rw (is-f, is-p, start-is w (q .ready .kept .table) starts e (top w ws ls plan s v t 4 q .stands))
+    called-here = is-g ∙ rw (is, start-is w (q .ready .kept .table) starts e (top w ws ls plan s v t 4 q .stands))
 
     pub called-inside : 2 * g + 1 < length w
     called-inside = omega (arith, called-here, called-in w (q .ready .kept .table) (top w ws ls plan s v t 4 q .stands) (tag-here w ws ls plan s v t 4 q), q .ready .kept .table .contents .header .room)
 
   -- THE ARGUMENTS OF A CALL
-  module _ (q : Returns w ws ls plan s v t 4) (n : ℕ) (is-n : n ≡ getD ws (32 * t + 4) 0) where
+  module _ (q : Returns w ws ls plan s v t 4) (n : ℕ) (is-n : n ≡ frameValue ws (32 * t)) where
     abbrev caller : Code
     caller = codeAt ws (32 * t)
 
@@ -337,31 +338,31 @@ module _ (w ws ls : List ℕ) (plan : Plan) (s : Registers) (v t : ℕ) where
     pub awaits-here : n < arityAt w (calledAt w ws (32 * t))
     awaits-here = rw is-n (top w ws ls plan s v t 4 q .awaits (q .of-kind))
 
-    length-more : length (argumentsAt ws (32 * t) ++ (v ∷ [])) ≡ n + 1
+    length-more : length (frameArguments ws (32 * t) ++ (v ∷ [])) ≡ n + 1
     length-more =
-        let x : getD ws (32 * t + 4) 0 ≤ length (drop (32 * t + 24) ws) = simp length-drop (omega (arith, room w ws ls plan s v t 4 q, few-here)) in
-        length-append (argumentsAt ws (32 * t)) (v ∷ []) ∙ rw (length-take-le _ _ x, ← is-n)
+        let x : frameValue ws (32 * t) ≤ length (drop (argumentsWord (32 * t)) ws) = simp length-drop (omega (arith, room w ws ls plan s v t 4 q, few-here)) in
+        length-append (frameArguments ws (32 * t)) (v ∷ []) ∙ rw (length-take-le _ _ x, ← is-n)
 
-    pub stepped-next-argument : Paid plan s → n + 1 < arityAt w (calledAt w ws (32 * t)) → (ws′ ls′ : List ℕ) (seat : Seat) → length ws′ ≡ length ws → ws′ ≡ collected ws t n v → Child w ws′ ls (32 * t) (ltb 1 (n + 1)) ls′ seat
+    pub stepped-next-argument : Paid plan s → n + 1 < arityAt w (calledAt w ws (32 * t)) → (ws′ ls′ : List ℕ) (seat : Seat) → length ws′ ≡ length ws → ws′ ≡ collected ws (32 * t) n v → Child w ws′ ls (32 * t) (ltb 1 (n + 1)) ls′ seat
         → (m : Registers) → m ≡ ticked s (Eval (seat .function) (seat .node) (seat .count)) (t + 1) (s .oldest) → Stepped w ws ls plan s ws′ ls′ (Go m)
     unfolding slotOf arrive gathered resultOf KeptBy Controlled controlOf
     stepped-next-argument paid less ws′ ls′ seat long c h m e =
-        let u = is-collected ws ws′ t (room w ws ls plan s v t 4 q) n v few-here c in
-        let l = frame-locals w ws′ ls t (sitting-collected w ws ls plan s v t 4 q n few-here ws′ long c) ls′ (h .locals) in
+        let u = is-collected ws ws′ (32 * t) (room w ws ls plan s v t 4 q) n v few-here c in
+        let l = frame-locals w ws′ ls (32 * t) (sitting-collected w ws ls plan s v t 4 q n few-here ws′ long c) ls′ (h .locals) in
         let table = q .ready .kept .table in
         let fit = top w ws ls plan s v t 4 q in
         let tag = tag-here w ws ls plan s v t 4 q in
-        let more = argumentsAt ws (32 * t) ++ (v ∷ []) in
-        let locals = u .is-locals (getD ws (32 * t + 3) 0) (fit .stands .few) in
+        let more = frameArguments ws (32 * t) ++ (v ∷ []) in
+        let locals = u .is-locals (frameCount ws (32 * t)) (fit .stands .few) in
         let below = same-slots w ws ws′ table long t (sym (u .below)) (omega (arith, room w ws ls plan s v t 4 q)) (rest w ws ls plan s v t 4 q) in
-        let kind : getD ws′ (32 * t) 0 ≡ 4 = u .is-kind ∙ q .of-kind in
+        let kind : frameKind ws′ (32 * t) ≡ 4 = u .is-kind ∙ q .of-kind in
         let slot : slotAt ws′ (32 * t) ≡ ordinary (argument caller more) = rw (kind, u .is-function, u .is-node, u .is-count, locals, u .is-value, u .is-arguments, is-n) in
         let stack : stackOf ws′ (t + 1) ≡ ordinary (argument caller more) ∷ stackOf ws t = sym (stack-more ws′ t) ∙ rw (slot, below .0) in
         let control : controlOf (Eval (seat .function) (seat .node) (seat .count)) ls′ ≡ evaluate (at caller (cond (ltb 1 (n + 1)) (third w caller) (second w caller)) (caller .locals)) =
         rw (h .seat, l .are, u .is-function, u .is-node, u .is-count, locals) in
         rw e (record {
           same = returned w ws ls plan s v t 4 q
-              ∙ keeps w ws ls plan s v t 4 q paid (argument caller (argumentsAt ws (32 * t))) (argument caller more) (at caller (cond (ltb 1 (n + 1)) (third w caller) (second w caller)) (caller .locals)) (rw (length-more, lt-ltb _ _ less))
+              ∙ keeps w ws ls plan s v t 4 q paid (argument caller (frameArguments ws (32 * t))) (argument caller more) (at caller (cond (ltb 1 (n + 1)) (third w caller) (second w caller)) (caller .locals)) (rw (length-more, lt-ltb _ _ less))
               ∙ rw (control, stack);
           kept = record {
             table = table;
@@ -374,41 +375,41 @@ module _ (w ws ls : List ℕ) (plan : Plan) (s : Registers) (v t : ℕ) where
           };
         })
 
-    pub stepped-last-argument : Paid plan s → (g : ℕ) → g ≡ calledAt w ws (32 * t) → arityAt w g ≤ n + 1 → (ls₁ ls₂ : List ℕ) → ls₁ ≡ loaded ls ws (32 * t + 24) n → ls₂ ≡ appended ls₁ n v
+    pub stepped-last-argument : Paid plan s → (g : ℕ) → g ≡ calledAt w ws (32 * t) → arityAt w g ≤ n + 1 → (ls₁ ls₂ : List ℕ) → ls₁ ≡ loaded ls ws (argumentsWord (32 * t)) n → ls₂ ≡ appended ls₁ n v
         → (m : Registers) → m ≡ ticked s (Eval g 0 (n + 1)) t (s .oldest) → Stepped w ws ls plan s ws ls₂ (Go m)
     unfolding slotOf arrive gathered Controlled controlOf
     stepped-last-argument paid g is-g most ls₁ ls₂ x y m e =
-        let l = is-loaded ls ws ls₁ (32 * t + 24) n (omega (arith, few-here)) (omega (arith, few-here, room w ws ls plan s v t 4 q)) (q .ready .kept .sixteen) x in
+        let l = is-loaded ls ws ls₁ (argumentsWord (32 * t)) n (omega (arith, few-here)) (omega (arith, few-here, room w ws ls plan s v t 4 q)) (q .ready .kept .sixteen) x in
         let a = is-appended ls₁ ls₂ n v (omega (arith, few-here)) (l .sixteen) y in
         let table = q .ready .kept .table in
         let fit = top w ws ls plan s v t 4 q in
-        let more = argumentsAt ws (32 * t) ++ (v ∷ []) in
+        let more = frameArguments ws (32 * t) ++ (v ∷ []) in
         let is-arity : arityAt w g ≡ n + 1 = omega (arith, most, rw (← is-g) at awaits-here) in
         let callee : g < functions w = rw is-g (called-in w table (fit .stands) (tag-here w ws ls plan s v t 4 q)) in
         let control : controlOf (Eval g 0 (n + 1)) ls₂ ≡ evaluate (entered (called w caller) more) = rw (a .are, l .are, is-n, is-g) in
         closed w ws ls plan s v t 4 q ls₂ (Eval g 0 (n + 1)) (evaluate (entered (called w caller) more)) control (a .sixteen) (rw (← is-arity) (enter w table (fit .stands) g callee)) (λ x. omega arith)
-        (closes w ws ls plan s v t 4 q paid (argument caller (argumentsAt ws (32 * t))) (evaluate (entered (called w caller) more)) (rw (length-more, le-ltb _ _ (rw is-g at most)))) m e
+        (closes w ws ls plan s v t 4 q paid (argument caller (frameArguments ws (32 * t))) (evaluate (entered (called w caller) more)) (rw (length-more, le-ltb _ _ (rw is-g at most)))) m e
 
 -- A RIGHT OPERAND
 module _ (w ws ls : List ℕ) (plan : Plan) (s : Registers) (v t : ℕ) (q : Returns w ws ls plan s v t 1) where
   abbrev x : ℕ
-  x = getD ws (32 * t + 4) 0
+  x = frameValue ws (32 * t)
 
   abbrev frame : Frame
-  frame = right-operand (codeAt ws (32 * t)) (getD ws (32 * t + 4) 0)
+  frame = right-operand (codeAt ws (32 * t)) (frameValue ws (32 * t))
 
-  the-operation : (o : Operation) × (nodeAt w (startOf w (getD ws (32 * t + 1) 0)) (getD ws (32 * t + 2) 0) ≡ Arithmetic o (bAt w (startOf w (getD ws (32 * t + 1) 0)) (getD ws (32 * t + 2) 0)))
+  the-operation : (o : Operation) × (nodeAt w (startOf w (frameFunction ws (32 * t))) (frameNode ws (32 * t)) ≡ Arithmetic o (bAt w (startOf w (frameFunction ws (32 * t))) (frameNode ws (32 * t))))
   the-operation = operation-in w (q .ready .kept .table) (top w ws ls plan s v t 1 q .stands) (tag-here w ws ls plan s v t 1 q)
 
   arrives : arrive w frame v ≡ result (computed (the-operation .0) x v)
   unfolding arrive operated
   arrives = rw (the-operation .1)
 
-  steps : operation w ws (32 * t) v ≡ stepOf (getD ws (32 * t + 1) 0) (getD ws (32 * t + 2) 0) (computed (the-operation .0) x v)
+  steps : operation w ws (32 * t) v ≡ stepOf (frameFunction ws (32 * t)) (frameNode ws (32 * t)) (computed (the-operation .0) x v)
   unfolding operationOf
   steps = rw (the-operation .1)
 
-  pub operand : Operand w ws t
+  pub operand : Operand w ws (32 * t)
   operand = record { table = q .ready .kept .table; room = room w ws ls plan s v t 1 q; stands = top w ws ls plan s v t 1 q .stands; tag = tag-here w ws ls plan s v t 1 q }
 
   pub stepped-result : Paid plan s → (z : ℕ) → Value z ≡ operation w ws (32 * t) v → (n : Registers) → n ≡ ticked s (Ret z) t (s .oldest) → Stepped w ws ls plan s ws ls (Go n)
@@ -421,7 +422,7 @@ module _ (w ws ls : List ℕ) (plan : Plan) (s : Registers) (v t : ℕ) (q : Ret
   unfolding slotOf resultOf KeptBy stepOf result
   stepped-failure paid o e not = by (computed (the-operation .0) x v) (e ∙ steps) arrives
     where
-      by : (c : Computed) → o ≡ stepOf (getD ws (32 * t + 1) 0) (getD ws (32 * t + 2) 0) c → arrive w frame v ≡ result c → Stepped w ws ls plan s ws ls o
+      by : (c : Computed) → o ≡ stepOf (frameFunction ws (32 * t)) (frameNode ws (32 * t)) c → arrive w frame v ≡ result c → Stepped w ws ls plan s ws ls o
       by (Is z) e a = absurd (not z e)
       by (Fails i) e a = rw e (record { same = returned w ws ls plan s v t 1 q ∙ fails w ws ls plan s v t 1 q paid frame i a; kept = tt })
 
@@ -451,9 +452,9 @@ module _ (w ws ls : List ℕ) (plan : Plan) (s : Registers) (v t kind : ℕ) (q 
   by-kind (suc (suc (suc (suc (suc (suc zero)))))) h x vs g l = rw (le-ltb _ _ dry)
   by-kind (suc (suc (suc (suc (suc (suc (suc k))))))) h x vs g l = absurd (omega arith)
 
-  pub stepped-dry : kind < 7 → (f p : ℕ) → f ≡ getD ws (32 * t + 1) 0 → p ≡ getD ws (32 * t + 2) 0 → (o : Step) → o ≡ halted 20 f p → Stepped w ws ls plan s ws ls o
+  pub stepped-dry : kind < 7 → (r : FrameRead) → r ≡ frameAt ws (32 * t) → (o : Step) → o ≡ halted 20 (r .function) (r .node) → Stepped w ws ls plan s ws ls o
   unfolding resultOf KeptBy
-  stepped-dry h f p is-f is-p o e = rw (e, is-f, is-p) (record { same = returned w ws ls plan s v t kind q ∙ by-kind kind h _ _ _ _; kept = tt })
+  stepped-dry h r is o e = rw (e, is) (record { same = returned w ws ls plan s v t kind q ∙ by-kind kind h _ _ _ _; kept = tt })
 
 -- NO FRAME LEFT
 pub stepped-done : (w ws ls : List ℕ) (plan : Plan) (s : Registers) (v : ℕ) → s .control ≡ Ret v → s .depth ≡ 0 → Stepped w ws ls plan s ws ls (Value v)

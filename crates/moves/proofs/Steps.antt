@@ -19,7 +19,7 @@ use Rattle.table.specs.Words.{arityAt, startOf, tagAt, aAt}
 use Rattle.table.specs.Nodes.{nodeAt}
 use Rattle.table.specs.Read.{startsOf}
 use Rattle.table.proofs.Views.{tagFor}
-use Rattle.frames.specs.Frames.{pushed}
+use Rattle.frames.specs.Frames.{frameLeft, pushed}
 use Rattle.frames.proofs.Writes.{Pushed, is-pushed}
 use Rattle.language.specs.Language.{Code, Frame, left-operand, condition, binding, argument, place, at, first, next, call, language}
 use Rattle.moves.specs.declared.Control.{Control}
@@ -38,8 +38,8 @@ below-cap : (n d : ℕ) → d < n / 32 → n / 32 ≤ 4096 → (32 * d + 32 ≤ 
 below-cap n d h g = omega arith
 
 -- what a frame that was just written holds
-pushed-slot : (ws ws′ : List ℕ) (d kind f p k : ℕ) (ls : List ℕ) (g : ℕ) → Pushed ws ws′ d kind f p k ls g
-    → slotAt ws′ (32 * d) ≡ slotOf kind (record { function = f; node = p; locals = take k ls }) 0 [] g (getD ws′ (32 * d + 6) 0)
+pushed-slot : (ws ws′ : List ℕ) (d kind f p k : ℕ) (ls : List ℕ) (g : ℕ) → Pushed ws ws′ (32 * d) kind f p k ls g
+    → slotAt ws′ (32 * d) ≡ slotOf kind (record { function = f; node = p; locals = take k ls }) 0 [] g (frameLeft ws′ (32 * d))
 pushed-slot ws ws′ d kind f p k ls g u = rw (u .is-kind, u .is-function, u .is-node, u .is-count, u .is-value, u .is-before, u .is-locals)
 
 module _ (w ws ls : List ℕ) (plan : Plan) (s : Registers) (r : Ready w ws ls plan s) where
@@ -133,15 +133,15 @@ module _ (w ws ls : List ℕ) (plan : Plan) (s : Registers) (r : Ready w ws ls p
     stepped-enter g b c o n a u = stepped-transit (Eval g 0 0) o (rw (n, a)) (rw a at (enter w (r .kept .table) here g (callee w (r .kept .table) here g b c n))) u
 
     -- a frame is opened
-    opened : (ws′ : List ℕ) (kind g : ℕ) → s .depth < cap → ws′ ≡ pushed ws (s .depth) kind f p k ls g → Pushed ws ws′ (s .depth) kind f p k ls g
-    opened ws′ kind g h e = is-pushed ws ws′ (s .depth) (below-cap (length ws) (s .depth) h (r .limits .frames) .0) kind f p k ls g (here .few) (r .kept .sixteen) e
+    opened : (ws′ : List ℕ) (kind g : ℕ) → s .depth < cap → ws′ ≡ pushed ws (32 * s .depth) kind f p k ls g → Pushed ws ws′ (32 * s .depth) kind f p k ls g
+    opened ws′ kind g h e = is-pushed ws ws′ (32 * s .depth) (below-cap (length ws) (s .depth) h (r .limits .frames) .0) kind f p k ls g (here .few) (r .kept .sixteen) e
 
-    module _ (ws′ : List ℕ) (long : length ws′ ≡ length ws) (kind g o′ : ℕ) (h : s .depth < cap) (u : Pushed ws ws′ (s .depth) kind f p k ls g)
+    module _ (ws′ : List ℕ) (long : length ws′ ≡ length ws) (kind g o′ : ℕ) (h : s .depth < cap) (u : Pushed ws ws′ (32 * s .depth) kind f p k ls g)
         (ok : Fitting w kind f p k 0) (child : Stands w f (p + 1) k) (old : Oldest ws′ (s .depth + 1) o′) (bo : plan .birth ≡ true → o′ ≡ 4096) where
       below : (stackOf ws (s .depth) ≡ stackOf ws′ (s .depth)) × Held w ws′ (s .depth)
       below = same-slots w ws ws′ (r .kept .table) long (s .depth) (sym (u .below)) (r .kept .room) (r .kept .held)
 
-      pushed-stack : (x : Slot ℕ Frame Code) → slotOf kind code 0 [] g (getD ws′ (32 * s .depth + 6) 0) ≡ x → stackOf ws′ (s .depth + 1) ≡ x ∷ stackOf ws (s .depth)
+      pushed-stack : (x : Slot ℕ Frame Code) → slotOf kind code 0 [] g (frameLeft ws′ (32 * s .depth)) ≡ x → stackOf ws′ (s .depth + 1) ≡ x ∷ stackOf ws (s .depth)
       pushed-stack x q = sym (stack-more ws′ (s .depth)) ∙ rw (pushed-slot ws ws′ (s .depth) kind f p k ls g u, q, below .0)
 
       pushed-kept : Kept w ws′ ls (plan .birth) (Eval f (p + 1) k) (s .depth + 1) o′

@@ -1,15 +1,16 @@
--- How the words of the workspace and the registers hold a state of the flat machine. Frame d begins at word b = 32 * d and is laid out as
--- specs/Frames of crate `frames` says; its value is a left one, or how many arguments are there.
+-- How the words of the workspace and the registers hold a state of the flat machine. Frame d begins at word b = 32 * d; what stands in it is
+-- said in specs/Frames of crate `frames`.
 use Prim.Native.Nat.{ℕ, zero, suc, _+_, _*_, max}
 use mathlib.Core.Bool.{cond}
 use mathlib.Core.List.{List, [], _∷_}
-use lib.ListN.{getD, take, drop}
+use lib.ListN.{getD, take}
 use lib.Dec.{ltb, eqb}
 use Rattle.schedule.specs.FrameMachine.{evaluate, return}
 use Rattle.schedule.specs.FrameMachine.{Control as FlatControl}
 use Rattle.schedule.specs.Algebra.{spans}
 use Rattle.schedule.specs.Machine.{Slot, ordinary, plain-left, plain-right, promoted-left, promoted-right, value, stop, State, state, Result, ended, ongoing}
 use Rattle.schedule.specs.Machine.{RunCounts}
+use Rattle.frames.specs.Frames.{frameKind, frameFunction, frameNode, frameValue, frameBefore, frameLeft, frameLocals, frameArguments}
 use Rattle.moves.specs.declared.Control.{Control}
 use Rattle.moves.specs.declared.Control.the-variants.{Eval, Ret}
 use Rattle.moves.specs.declared.Registers.{Registers}
@@ -18,10 +19,7 @@ use Rattle.moves.specs.declared.Step.the-variants.{Go, Value, Halt}
 use Rattle.language.specs.Language.{Code, Frame, left-operand, right-operand, condition, binding, argument, language}
 
 abbrev pub codeAt : List ℕ → ℕ → Code
-codeAt ws b = record { function = getD ws (b + 1) 0; node = getD ws (b + 2) 0; locals = take (getD ws (b + 3) 0) (drop (b + 8) ws) }
-
-abbrev pub argumentsAt : List ℕ → ℕ → List ℕ
-argumentsAt ws b = take (getD ws (b + 4) 0) (drop (b + 24) ws)
+codeAt ws b = record { function = frameFunction ws b; node = frameNode ws b; locals = frameLocals ws b }
 
 -- the slots by kind, 0 to 7; any other kind is a promoted fork that awaits its right value
 abbrev pub slots : Code → ℕ → List ℕ → ℕ → List (Slot ℕ Frame Code)
@@ -40,7 +38,7 @@ unfoldable pub slotOf : ℕ → Code → ℕ → List ℕ → ℕ → ℕ → Sl
 slotOf kind c v vs g l = getD (slots c v vs g) kind (promoted-right g l c v)
 
 abbrev pub slotAt : List ℕ → ℕ → Slot ℕ Frame Code
-slotAt ws b = slotOf (getD ws b 0) (codeAt ws b) (getD ws (b + 4) 0) (argumentsAt ws b) (getD ws (b + 5) 0) (getD ws (b + 6) 0)
+slotAt ws b = slotOf (frameKind ws b) (codeAt ws b) (frameValue ws b) (frameArguments ws b) (frameBefore ws b) (frameLeft ws b)
 
 -- the newest first
 unfoldable pub stackOf : List ℕ → ℕ → List (Slot ℕ Frame Code)

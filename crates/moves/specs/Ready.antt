@@ -16,7 +16,7 @@ use Rattle.table.specs.declared.Node.the-variants.{Constant, Local, Arithmetic,
 use Rattle.arithmetic.specs.declared.Computed.{Computed}
 use Rattle.arithmetic.specs.declared.Computed.the-variants.{Is, Fails}
 use Rattle.arithmetic.specs.Operate.{computed}
-use Rattle.frames.specs.Frames.{pushed, marked, loaded, appended}
+use Rattle.frames.specs.Frames.{localsWord, frameKind, frameFunction, frameNode, frameCount, frameValue, pushed, marked, loaded, appended}
 use Rattle.moves.specs.declared.Control.{Control}
 use Rattle.moves.specs.declared.Control.the-variants.{Eval, Ret}
 use Rattle.moves.specs.declared.Registers.{Registers}
@@ -46,7 +46,7 @@ pub record Fitting (w : List ℕ) (kind f p k n : ℕ) : Type 0 where
   pub awaits : kind ≡ 4 → n < arityAt w (aAt w (startOf w f) p)
 
 abbrev pub FittingAt : List ℕ → List ℕ → ℕ → Type 0
-FittingAt w ws b = Fitting w (getD ws b 0) (getD ws (b + 1) 0) (getD ws (b + 2) 0) (getD ws (b + 3) 0) (getD ws (b + 4) 0)
+FittingAt w ws b = Fitting w (frameKind ws b) (frameFunction ws b) (frameNode ws b) (frameCount ws b) (frameValue ws b)
 
 unfoldable pub Held : List ℕ → List ℕ → ℕ → Type 0
 Held w ws zero = Unit {0}
@@ -59,10 +59,10 @@ Controlled w (Ret v) = Unit {0}
 -- THE OLDEST PLAIN FORK that awaits its left (kind 5): none lies below `oldest`; at `oldest` there is one, or it is 4096 and there is none;
 -- every promoted frame (kind 7 and above) lies below it
 pub record Oldest (ws : List ℕ) (d o : ℕ) : Type 0 where
-  pub below : (j : ℕ) → j < d → j < o → getD ws (32 * j) 0 ≡ 5 → ⊥
-  pub is : o < d → getD ws (32 * o) 0 ≡ 5
+  pub below : (j : ℕ) → j < d → j < o → frameKind ws (32 * j) ≡ 5 → ⊥
+  pub is : o < d → frameKind ws (32 * o) ≡ 5
   pub none : d ≤ o → o ≡ 4096
-  pub past : (j : ℕ) → j < d → 7 ≤ getD ws (32 * j) 0 → j < o
+  pub past : (j : ℕ) → j < d → 7 ≤ frameKind ws (32 * j) → j < o
 
 -- what each move leaves true; `birth`: a fork is promoted at its birth
 pub record Kept (w ws ls : List ℕ) (birth : Bool) (c : Control) (d o : ℕ) : Type 0 where
@@ -109,7 +109,7 @@ pub record Returns (w ws ls : List ℕ) (plan : Plan) (s : Registers) (v top kin
   pub ready : Ready w ws ls plan s
   pub is : s .control ≡ Ret v
   pub depth : s .depth ≡ top + 1
-  pub of-kind : getD ws (32 * top) 0 ≡ kind
+  pub of-kind : frameKind ws (32 * top) ≡ kind
 
 -- a frame for a node can be written, and the counts can rise
 pub record Framed (ws ls : List ℕ) (s : Registers) (seat : Seat) : Type 0 where
@@ -131,67 +131,67 @@ transited plan s seat c = cond (ltb (s .transitions) (plan .fuel .0)) (Go (ticke
 pub data Opened (ws ws′ ls : List ℕ) (plan : Plan) (s : Registers) (seat : Seat) (kind oldest : ℕ) (r : Step) : Type 0 where
   dry : plan .fuel .0 ≤ s .transitions → ws′ ≡ ws → r ≡ halted 20 (seat .function) (seat .node) → Opened ws ws′ ls plan s seat kind oldest r
   full : s .transitions < plan .fuel .0 → length ws / 32 ≤ s .depth → ws′ ≡ ws → r ≡ halted 21 (seat .function) (seat .node) → Opened ws ws′ ls plan s seat kind oldest r
-  opens : s .transitions < plan .fuel .0 → s .depth < length ws / 32 → ws′ ≡ pushed ws (s .depth) kind (seat .function) (seat .node) (seat .count) ls 0
+  opens : s .transitions < plan .fuel .0 → s .depth < length ws / 32 → ws′ ≡ pushed ws (32 * s .depth) kind (seat .function) (seat .node) (seat .count) ls 0
       → r ≡ Go (ticked (risen s) (Eval (seat .function) (seat .node + 1) (seat .count)) (s .depth + 1) oldest) → Opened ws ws′ ls plan s seat kind oldest r
 
 -- a fork that is promoted at its birth: a free frame
 pub data Forked (ws ws′ ls : List ℕ) (s : Registers) (seat : Seat) (r : Step) : Type 0 where
   full : length ws / 32 ≤ s .depth → ws′ ≡ ws → r ≡ halted 21 (seat .function) (seat .node) → Forked ws ws′ ls s seat r
-  forks : s .depth < length ws / 32 → ws′ ≡ pushed ws (s .depth) 7 (seat .function) (seat .node) (seat .count) ls (s .span .0)
+  forks : s .depth < length ws / 32 → ws′ ≡ pushed ws (32 * s .depth) 7 (seat .function) (seat .node) (seat .count) ls (s .span .0)
       → r ≡ Go (restarted (risen s) (Eval (seat .function) (seat .node + 1) (seat .count)) (s .depth + 1) (s .oldest) 0 (s .forks + 1)) → Forked ws ws′ ls s seat r
 
 pub data OpenedBoth (ws ws′ ls : List ℕ) (plan : Plan) (s : Registers) (seat : Seat) (r : Step) : Type 0 where
   born : plan .birth ≡ true → Forked ws ws′ ls s seat r → OpenedBoth ws ws′ ls plan s seat r
   plain : plan .birth ≡ false → Opened ws ws′ ls plan s seat 5 (oldestWith (s .oldest) (s .depth)) r → OpenedBoth ws ws′ ls plan s seat r
 
--- the frame at `top` with its node in the table
-pub record Sitting (w ws ls : List ℕ) (top : ℕ) : Type 0 where
+-- the frame at word b with its node in the table
+pub record Sitting (w ws ls : List ℕ) (b : ℕ) : Type 0 where
   pub table : WellFormed w
-  pub room : 32 * top + 32 ≤ length ws
+  pub room : b + 32 ≤ length ws
   pub sixteen : length ls ≡ 16
-  pub stands : Stands w (getD ws (32 * top + 1) 0) (getD ws (32 * top + 2) 0) (getD ws (32 * top + 3) 0)
+  pub stands : Stands w (frameFunction ws b) (frameNode ws b) (frameCount ws b)
 
 -- the locals that a frame saves, brought back
 abbrev pub localsAt : List ℕ → List ℕ → ℕ → List ℕ
-localsAt ls ws b = loaded ls ws (b + 8) (getD ws (b + 3) 0)
+localsAt ls ws b = loaded ls ws (localsWord b) (frameCount ws b)
 
 -- the second or the third child of a frame's node, with the frame's locals
 pub record Child (w ws ls : List ℕ) (b : ℕ) (last : Bool) (ls′ : List ℕ) (r : Seat) : Type 0 where
   pub seat : r ≡ record {
-    function = getD ws (b + 1) 0;
-    node = cond last (cAt w (startOf w (getD ws (b + 1) 0)) (getD ws (b + 2) 0)) (bAt w (startOf w (getD ws (b + 1) 0)) (getD ws (b + 2) 0));
-    count = getD ws (b + 3) 0;
+    function = frameFunction ws b;
+    node = cond last (cAt w (startOf w (frameFunction ws b)) (frameNode ws b)) (bAt w (startOf w (frameFunction ws b)) (frameNode ws b));
+    count = frameCount ws b;
   }
   pub locals : ls′ ≡ localsAt ls ws b
 
 -- the body of a fork's node: its third child, with the left's value and the right's added
 pub record Concluded (w ws ls : List ℕ) (b v : ℕ) (ls′ : List ℕ) (r : Control) : Type 0 where
-  pub is : r ≡ Eval (getD ws (b + 1) 0) (cAt w (startOf w (getD ws (b + 1) 0)) (getD ws (b + 2) 0)) (getD ws (b + 3) 0 + 2)
-  pub locals : ls′ ≡ appended (appended (localsAt ls ws b) (getD ws (b + 3) 0) (getD ws (b + 4) 0)) (getD ws (b + 3) 0 + 1) v
+  pub is : r ≡ Eval (frameFunction ws b) (cAt w (startOf w (frameFunction ws b)) (frameNode ws b)) (frameCount ws b + 2)
+  pub locals : ls′ ≡ appended (appended (localsAt ls ws b) (frameCount ws b) (frameValue ws b)) (frameCount ws b + 1) v
 
 -- the next plain fork from a place on, upward
 pub record Found (ws : List ℕ) (from d r : ℕ) : Type 0 where
   pub after : from ≤ r
-  pub below : (j : ℕ) → from ≤ j → j < d → j < r → getD ws (32 * j) 0 ≡ 5 → ⊥
-  pub is : r < d → getD ws (32 * r) 0 ≡ 5
+  pub below : (j : ℕ) → from ≤ j → j < d → j < r → frameKind ws (32 * j) ≡ 5 → ⊥
+  pub is : r < d → frameKind ws (32 * r) ≡ 5
   pub none : d ≤ r → r ≡ 4096
 
 -- what a promotion of the fork at `oldest` leaves
 pub record Promoted (ws : List ℕ) (s : Registers) (ws′ : List ℕ) (r : Registers) : Type 0 where
-  pub words : ws′ ≡ marked ws (s .oldest) 7 (s .span .0)
+  pub words : ws′ ≡ marked ws (32 * s .oldest) 7 (s .span .0)
   pub registers : r ≡ restarted s (s .control) (s .depth) (r .oldest) 0 (s .forks + 1)
   pub next : Found ws′ (s .oldest + 1) (s .depth) (r .oldest)
 
 -- the function that a call's frame calls
 abbrev pub calledAt : List ℕ → List ℕ → ℕ → ℕ
-calledAt w ws b = aAt w (startOf w (getD ws (b + 1) 0)) (getD ws (b + 2) 0)
+calledAt w ws b = aAt w (startOf w (frameFunction ws b)) (frameNode ws b)
 
 -- an arithmetic frame, and what its operation gives
-pub record Operand (w ws : List ℕ) (top : ℕ) : Type 0 where
+pub record Operand (w ws : List ℕ) (b : ℕ) : Type 0 where
   pub table : WellFormed w
-  pub room : 32 * top + 32 ≤ length ws
-  pub stands : Stands w (getD ws (32 * top + 1) 0) (getD ws (32 * top + 2) 0) (getD ws (32 * top + 3) 0)
-  pub tag : tagAt w (startOf w (getD ws (32 * top + 1) 0)) (getD ws (32 * top + 2) 0) ≡ 2
+  pub room : b + 32 ≤ length ws
+  pub stands : Stands w (frameFunction ws b) (frameNode ws b) (frameCount ws b)
+  pub tag : tagAt w (startOf w (frameFunction ws b)) (frameNode ws b) ≡ 2
 
 unfoldable pub stepOf : ℕ → ℕ → Computed → Step
 stepOf f p (Is r) = Value r
@@ -208,7 +208,7 @@ operationOf f p x y (Both b c) = halted 4 f p
 operationOf f p x y Unknown = halted 4 f p
 
 abbrev pub operation : List ℕ → List ℕ → ℕ → ℕ → Step
-operation w ws b v = operationOf (getD ws (b + 1) 0) (getD ws (b + 2) 0) (getD ws (b + 4) 0) v (nodeAt w (startOf w (getD ws (b + 1) 0)) (getD ws (b + 2) 0))
+operation w ws b v = operationOf (frameFunction ws b) (frameNode ws b) (frameValue ws b) v (nodeAt w (startOf w (frameFunction ws b)) (frameNode ws b))
 
 -- after an operation: its result is returned by a transition, or its stop is left as it is
 pub data Resumed (s : Registers) (top : ℕ) (computed r : Step) : Type 0 where

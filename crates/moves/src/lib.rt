@@ -8,10 +8,11 @@ use table::Node;
 ghost use mathlib.Core.Path.{_≡_};
 ghost use mathlib.Core.Bool.{_&&_};
 ghost use Prim.Native.Nat.{_+_, _*_, _/_, _<_, _≤_, _^_, max};
-ghost use lib.ListN.{length, getD};
+ghost use lib.ListN.{length};
 ghost use lib.Dec.{ltb, leb};
 ghost use Rattle.table.specs.Words.{arityAt};
 ghost use Rattle.table.specs.Read.{startsOf};
+ghost use Rattle.frames.specs.Frames.{frameCount, frameValue};
 ghost use Rattle.moves.specs.Layout.{ticked, restarted, risen, oldestWith, oldestWithout, halted};
 ghost use Rattle.moves.specs.Ready.{Returns, Paid, Stepped, Framed, transited, Opened, Forked, OpenedBoth, Sitting, Child, Operand, operation, Resumed, calledAt, Concluded, Found, Promoted};
 
@@ -86,12 +87,6 @@ pub struct Seat {
     pub function: usize,
     pub node: usize,
     pub count: usize,
-}
-
-fn index(x: u64) -> usize
-    ensures { λ r. ⌜ r ≡ x ⌝ }
-{
-    x as usize
 }
 
 fn higher(a: usize, b: usize) -> usize
@@ -209,7 +204,8 @@ pub fn open(
     let fuel = plan.fuel;
     if fuel.allows(s.transitions) {
         if depth < ws.len() / frames::WORDS {
-            frames::push(ws, depth, kind, f, p, k, locals, Span::none());
+            let b = frames::WORDS * depth;
+            frames::push(ws, b, kind, f, p, k, locals, Span::none());
             let up = rise(s);
             Step::Go(tick(up, Control::Eval(f, p + 1, k), depth + 1, oldest))
         } else {
@@ -231,7 +227,8 @@ fn fork(ws: &mut [u64], locals: &[u64], s: Registers, seat: Seat) -> Step
     let k = seat.count;
     let span = s.span;
     if depth < ws.len() / frames::WORDS {
-        frames::push(ws, depth, PROMOTED_LEFT, f, p, k, locals, span);
+        let b = frames::WORDS * depth;
+        frames::push(ws, b, PROMOTED_LEFT, f, p, k, locals, span);
         let up = rise(s);
         Step::Go(restart(
             up,
@@ -273,23 +270,23 @@ pub fn evaluate_both(ws: &mut [u64], locals: &[u64], plan: Plan, s: Registers, s
     }
 }
 
-// The second child of the frame's node, or its third, with the frame's locals.
+// The second child of the node of the frame at b, or its third, with the frame's locals.
 fn child(
     words: &[u32],
     starts: &[usize],
     ws: &[u64],
     locals: &mut [u64],
-    top: usize,
+    b: usize,
     last: bool,
 ) -> Seat
-    requires { ⌜ (Sitting (now words) (now ws) (now locals) top) × (now starts ≡ startsOf (now words)) ⌝ }
-    ensures { λ r. ⌜ Child (now (words .entry)) (now (ws .entry)) (now (locals .entry)) (32 * top) last (now (locals .exit)) r ⌝ }
+    requires { ⌜ (Sitting (now words) (now ws) (now locals) b) × (now starts ≡ startsOf (now words)) ⌝ }
+    ensures { λ r. ⌜ Child (now (words .entry)) (now (ws .entry)) (now (locals .entry)) b last (now (locals .exit)) r ⌝ }
 {
-    let b = frames::WORDS * top;
-    let function = index(ws[b + frames::FUNCTION]);
-    let p = index(ws[b + frames::NODE]);
-    let count = index(ws[b + frames::COUNT]);
-    frames::load(locals, ws, top, count);
+    let frame = frames::read(ws, b);
+    let function = frame.function;
+    let p = frame.node;
+    let count = frame.count;
+    frames::load_locals(locals, ws, b, count);
     let start = starts[function];
     let node = if last {
         table::third(words, start, p)
@@ -317,8 +314,9 @@ pub fn ret_left_operand(
     requires { ⌜ (Returns (now words) (now ws) (now locals) plan s v top 0) × (Paid plan s) × (now starts ≡ startsOf (now words)) ⌝ }
     ensures { λ r. ⌜ Stepped (now (words .entry)) (now (ws .entry)) (now (locals .entry)) plan s (now (ws .exit)) (now (locals .exit)) r ⌝ }
 {
-    frames::turn(ws, top, RIGHT_OPERAND, v, Span::none());
-    let seat = child(words, starts, ws, locals, top, false);
+    let b = frames::WORDS * top;
+    frames::turn(ws, b, RIGHT_OPERAND, v, Span::none());
+    let seat = child(words, starts, ws, locals, b, false);
     Step::Go(tick(
         s,
         Control::Eval(seat.function, seat.node, seat.count),
@@ -327,19 +325,19 @@ pub fn ret_left_operand(
     ))
 }
 
-// What an arithmetic frame's operation gives on its left operand and v.
-fn operated(words: &[u32], starts: &[usize], ws: &[u64], top: usize, v: u64) -> Step
-    requires { ⌜ (Operand (now words) (now ws) top) × (now starts ≡ startsOf (now words)) ⌝ }
-    ensures { λ r. ⌜ r ≡ operation (now (words .entry)) (now (ws .entry)) (32 * top) v ⌝ }
+// What the operation of the arithmetic frame at b gives on its left operand and v.
+fn operated(words: &[u32], starts: &[usize], ws: &[u64], b: usize, v: u64) -> Step
+    requires { ⌜ (Operand (now words) (now ws) b) × (now starts ≡ startsOf (now words)) ⌝ }
+    ensures { λ r. ⌜ r ≡ operation (now (words .entry)) (now (ws .entry)) b v ⌝ }
 {
-    let b = frames::WORDS * top;
-    let function = index(ws[b + frames::FUNCTION]);
-    let p = index(ws[b + frames::NODE]);
+    let frame = frames::read(ws, b);
+    let function = frame.function;
+    let p = frame.node;
     let node = table::node_at(words, starts[function], p);
     let Node::Arithmetic(operation, _) = node else {
         return halt(4, function, p);
     };
-    match arithmetic::operate(operation, ws[b + frames::VALUE], v) {
+    match arithmetic::operate(operation, frame.value, v) {
         Computed::Is(r) => Step::Value(r),
         Computed::Fails(number) => halt(number, function, p),
     }
@@ -370,7 +368,7 @@ pub fn ret_right_operand(
     requires { ⌜ (Returns (now words) (now ws) (now locals) plan s v top 1) × (Paid plan s) × (now starts ≡ startsOf (now words)) ⌝ }
     ensures { λ r. ⌜ Stepped (now (words .entry)) (now (ws .entry)) (now (locals .entry)) plan s (now (ws .entry)) (now (locals .entry)) r ⌝ }
 {
-    let computed = operated(words, starts, ws, top, v);
+    let computed = operated(words, starts, ws, frames::WORDS * top, v);
     resumed(s, top, computed)
 }
 
@@ -388,7 +386,7 @@ pub fn ret_condition(
     requires { ⌜ (Returns (now words) (now ws) (now locals) plan s v top 2) × (Paid plan s) × (now starts ≡ startsOf (now words)) ⌝ }
     ensures { λ r. ⌜ Stepped (now (words .entry)) (now (ws .entry)) (now (locals .entry)) plan s (now (ws .entry)) (now (locals .exit)) r ⌝ }
 {
-    let seat = child(words, starts, ws, locals, top, v == 0);
+    let seat = child(words, starts, ws, locals, frames::WORDS * top, v == 0);
     Step::Go(tick(
         s,
         Control::Eval(seat.function, seat.node, seat.count),
@@ -411,7 +409,7 @@ pub fn ret_binding(
     requires { ⌜ (Returns (now words) (now ws) (now locals) plan s v top 3) × (Paid plan s) × (now starts ≡ startsOf (now words)) ⌝ }
     ensures { λ r. ⌜ Stepped (now (words .entry)) (now (ws .entry)) (now (locals .entry)) plan s (now (ws .entry)) (now (locals .exit)) r ⌝ }
 {
-    let seat = child(words, starts, ws, locals, top, false);
+    let seat = child(words, starts, ws, locals, frames::WORDS * top, false);
     let count = seat.count;
     frames::append(locals, count, v);
     Step::Go(tick(
@@ -434,11 +432,12 @@ fn next_argument(
     top: usize,
     n: usize,
 ) -> Step
-    requires { ⌜ (Returns (now words) (now ws) (now locals) plan s v top 4) × (Paid plan s) × (now starts ≡ startsOf (now words)) × (n ≡ getD (now ws) (32 * top + 4) 0) × (n + 1 < arityAt (now words) (calledAt (now words) (now ws) (32 * top))) ⌝ }
+    requires { ⌜ (Returns (now words) (now ws) (now locals) plan s v top 4) × (Paid plan s) × (now starts ≡ startsOf (now words)) × (n ≡ frameValue (now ws) (32 * top)) × (n + 1 < arityAt (now words) (calledAt (now words) (now ws) (32 * top))) ⌝ }
     ensures { λ r. ⌜ Stepped (now (words .entry)) (now (ws .entry)) (now (locals .entry)) plan s (now (ws .exit)) (now (locals .exit)) r ⌝ }
 {
-    frames::collect(ws, top, n, v);
-    let seat = child(words, starts, ws, locals, top, 1 < n + 1);
+    let b = frames::WORDS * top;
+    frames::collect(ws, b, n, v);
+    let seat = child(words, starts, ws, locals, b, 1 < n + 1);
     Step::Go(tick(
         s,
         Control::Eval(seat.function, seat.node, seat.count),
@@ -459,10 +458,10 @@ fn last_argument(
     n: usize,
     g: usize,
 ) -> Step
-    requires { ⌜ (Returns (now words) (now ws) (now locals) plan s v top 4) × (Paid plan s) × (n ≡ getD (now ws) (32 * top + 4) 0) × (arityAt (now words) g ≤ n + 1) × (g ≡ calledAt (now words) (now ws) (32 * top)) ⌝ }
+    requires { ⌜ (Returns (now words) (now ws) (now locals) plan s v top 4) × (Paid plan s) × (n ≡ frameValue (now ws) (32 * top)) × (arityAt (now words) g ≤ n + 1) × (g ≡ calledAt (now words) (now ws) (32 * top)) ⌝ }
     ensures { λ r. ⌜ Stepped (now (words .entry)) (now (ws .entry)) (now (locals .entry)) plan s (now (ws .entry)) (now (locals .exit)) r ⌝ }
 {
-    frames::load_arguments(locals, ws, top, n);
+    frames::load_arguments(locals, ws, frames::WORDS * top, n);
     frames::append(locals, n, v);
     let count = n + 1;
     Step::Go(tick(s, Control::Eval(g, 0, count), top, s.oldest))
@@ -482,11 +481,10 @@ pub fn ret_argument(
     requires { ⌜ (Returns (now words) (now ws) (now locals) plan s v top 4) × (Paid plan s) × (now starts ≡ startsOf (now words)) ⌝ }
     ensures { λ r. ⌜ Stepped (now (words .entry)) (now (ws .entry)) (now (locals .entry)) plan s (now (ws .exit)) (now (locals .exit)) r ⌝ }
 {
-    let b = frames::WORDS * top;
-    let function = index(ws[b + frames::FUNCTION]);
-    let p = index(ws[b + frames::NODE]);
-    let n = index(ws[b + frames::VALUE]);
-    let g = table::called(words, starts[function], p);
+    let frame = frames::read(ws, frames::WORDS * top);
+    let function = frame.function;
+    let n = frame.value as usize;
+    let g = table::called(words, starts[function], frame.node);
     if n + 1 < table::arity(words, g) {
         next_argument(words, starts, ws, locals, plan, s, v, top, n)
     } else {
@@ -508,8 +506,9 @@ pub fn ret_plain_left(
     requires { ⌜ (Returns (now words) (now ws) (now locals) plan s v top 5) × (Paid plan s) × (now starts ≡ startsOf (now words)) ⌝ }
     ensures { λ r. ⌜ Stepped (now (words .entry)) (now (ws .entry)) (now (locals .entry)) plan s (now (ws .exit)) (now (locals .exit)) r ⌝ }
 {
-    frames::turn(ws, top, PLAIN_RIGHT, v, Span::none());
-    let seat = child(words, starts, ws, locals, top, false);
+    let b = frames::WORDS * top;
+    frames::turn(ws, b, PLAIN_RIGHT, v, Span::none());
+    let seat = child(words, starts, ws, locals, b, false);
     let oldest = oldest_without(s.oldest, top);
     Step::Go(tick(
         s,
@@ -519,22 +518,22 @@ pub fn ret_plain_left(
     ))
 }
 
-// The body of a fork's node, with both values.
+// The body of the node of the fork at b, with both values.
 fn body(
     words: &[u32],
     starts: &[usize],
     ws: &[u64],
     locals: &mut [u64],
-    top: usize,
+    b: usize,
     v: u64,
 ) -> Control
-    requires { ⌜ (Sitting (now words) (now ws) (now locals) top) × (now starts ≡ startsOf (now words)) × (getD (now ws) (32 * top + 3) 0 + 2 ≤ 16) ⌝ }
-    ensures { λ r. ⌜ Concluded (now (words .entry)) (now (ws .entry)) (now (locals .entry)) (32 * top) v (now (locals .exit)) r ⌝ }
+    requires { ⌜ (Sitting (now words) (now ws) (now locals) b) × (now starts ≡ startsOf (now words)) × (frameCount (now ws) b + 2 ≤ 16) ⌝ }
+    ensures { λ r. ⌜ Concluded (now (words .entry)) (now (ws .entry)) (now (locals .entry)) b v (now (locals .exit)) r ⌝ }
 {
-    let left = ws[frames::WORDS * top + frames::VALUE];
-    let seat = child(words, starts, ws, locals, top, true);
+    let frame = frames::read(ws, b);
+    let seat = child(words, starts, ws, locals, b, true);
     let count = seat.count;
-    frames::append(locals, count, left);
+    frames::append(locals, count, frame.value);
     frames::append(locals, count + 1, v);
     Control::Eval(seat.function, seat.node, count + 2)
 }
@@ -553,7 +552,7 @@ pub fn ret_plain_right(
     requires { ⌜ (Returns (now words) (now ws) (now locals) plan s v top 6) × (Paid plan s) × (now starts ≡ startsOf (now words)) ⌝ }
     ensures { λ r. ⌜ Stepped (now (words .entry)) (now (ws .entry)) (now (locals .entry)) plan s (now (ws .entry)) (now (locals .exit)) r ⌝ }
 {
-    let control = body(words, starts, ws, locals, top, v);
+    let control = body(words, starts, ws, locals, frames::WORDS * top, v);
     Step::Go(tick(s, control, top, s.oldest))
 }
 
@@ -572,8 +571,9 @@ fn turned(
     ensures { λ r. ⌜ Stepped (now (words .entry)) (now (ws .entry)) (now (locals .entry)) plan s (now (ws .exit)) (now (locals .exit)) r ⌝ }
 {
     let span = s.span;
-    frames::turn(ws, top, PROMOTED_RIGHT, v, span);
-    let seat = child(words, starts, ws, locals, top, false);
+    let b = frames::WORDS * top;
+    frames::turn(ws, b, PROMOTED_RIGHT, v, span);
+    let seat = child(words, starts, ws, locals, b, false);
     Step::Go(restart(
         s,
         Control::Eval(seat.function, seat.node, seat.count),
@@ -599,11 +599,12 @@ fn joined(
     requires { ⌜ (Returns (now words) (now ws) (now locals) plan s v top kind) × (8 ≤ kind) × (now starts ≡ startsOf (now words)) ⌝ }
     ensures { λ r. ⌜ Stepped (now (words .entry)) (now (ws .entry)) (now (locals .entry)) plan s (now (ws .entry)) (now (locals .exit)) r ⌝ }
 {
-    let before = Span(ws[frames::WORDS * top + frames::BEFORE]);
-    let left = Span(ws[frames::WORDS * top + frames::LEFT]);
+    let b = frames::WORDS * top;
+    let frame = frames::read(ws, b);
+    let before = frame.before;
     let right = s.span;
-    let whole = before.joined(plan.tau, left, right);
-    let control = body(words, starts, ws, locals, top, v);
+    let whole = before.joined(plan.tau, frame.left, right);
+    let control = body(words, starts, ws, locals, b, v);
     Step::Go(restart(s, control, top, s.oldest, whole, s.forks))
 }
 
@@ -636,7 +637,8 @@ fn search(ws: &[u64], from: usize, depth: usize) -> usize
 {
     let mut i = from;
     while i < depth {
-        if ws[frames::WORDS * i] == PLAIN_LEFT {
+        let frame = frames::read(ws, frames::WORDS * i);
+        if frame.kind == PLAIN_LEFT {
             return i;
         }
         i += 1;
@@ -652,7 +654,7 @@ pub fn promote(ws: &mut [u64], s: Registers) -> Registers
     let at = s.oldest;
     let span = s.span;
     let control = s.control;
-    frames::mark(ws, at, PROMOTED_LEFT, span);
+    frames::mark(ws, frames::WORDS * at, PROMOTED_LEFT, span);
     let next = search(ws, at + 1, s.depth);
     restart(s, control, s.depth, next, Span::none(), s.forks + 1)
 }

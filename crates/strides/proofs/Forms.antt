@@ -187,7 +187,7 @@ module _ {w ls : List ℕ} {g : Compact} {seat : Seat} {start at : ℕ} (t : Tag
 
   -- or its frame is written with the left one
   pub half-paired : (ws ws₁ ws′ : List ℕ) (next : Compact) (x k h q : ℕ) → Led w ls seat x k → h ≡ framesOf k → Roomy g (length ws / 32) (k + 2) (h + 1) → q ≡ getD w (at + 2) 0
-      → ws₁ ≡ pushed ws (g .depth) 1 (seat .function) (seat .node) (seat .count) ls 0 → ws′ ≡ turned ws₁ (g .depth) 1 x 0
+      → ws₁ ≡ pushed ws (32 * g .depth) 1 (seat .function) (seat .node) (seat .count) ls 0 → ws′ ≡ turned ws₁ (32 * g .depth) 1 x 0
       → next ≡ laterOf g (Eval (seat .function) q (seat .count)) (g .depth + 1) (k + 2) (h + 1) → Paired w ws ls g seat ws′ (Go next)
   half-paired ws ws₁ ws′ next x k h q led eh room eq e₁ e n = half next refl (record {
     left = x;

@@ -19,7 +19,7 @@ use Rattle.table.specs.Read.{startsOf}
 use Rattle.table.specs.declared.Node.{Node}
 use Rattle.table.specs.declared.Node.the-variants.{Constant, Local, Arithmetic, Choose, Let, Call, Both, Unknown}
 use Rattle.table.proofs.Views.{tagFor}
-use Rattle.frames.specs.Frames.{pushed}
+use Rattle.frames.specs.Frames.{localsWord, frameKind, pushed}
 use Rattle.frames.proofs.Writes.{Pushed, Turned, is-pushed, is-turned}
 use Rattle.language.specs.Language.{Code, Frame, left-operand, right-operand, at, first, second, next, arrive, language}
 use Rattle.moves.specs.declared.Control.{Control}
@@ -115,14 +115,14 @@ module _ (w ws ls : List ℕ) (plan : Plan) (g : Compact) (s : Starts w ws ls pl
         let l = length-stack ws d in
         let code = codeOf seat (seat .node) ls in
         let room : 32 * d + 32 ≤ length ws = omega (arith, j .room .within) in
-        let ws₁ = pushed ws d 1 (seat .function) (seat .node) (seat .count) ls 0 in
-        let p : Pushed ws ws₁ d 1 (seat .function) (seat .node) (seat .count) ls 0 = is-pushed ws ws₁ d room 1 (seat .function) (seat .node) (seat .count) ls 0 (here .few) (kept .sixteen) refl in
-        let u : Turned ws₁ ws′ d 1 (j .left) 0 = is-turned ws₁ ws′ d (omega (arith, p .long)) 1 (j .left) 0 (j .words) in
+        let ws₁ = pushed ws (32 * d) 1 (seat .function) (seat .node) (seat .count) ls 0 in
+        let p : Pushed ws ws₁ (32 * d) 1 (seat .function) (seat .node) (seat .count) ls 0 = is-pushed ws ws₁ (32 * d) room 1 (seat .function) (seat .node) (seat .count) ls 0 (here .few) (kept .sixteen) refl in
+        let u : Turned ws₁ ws′ (32 * d) 1 (j .left) 0 = is-turned ws₁ ws′ (32 * d) (omega (arith, p .long)) 1 (j .left) 0 (j .words) in
         let same = same-slots w ws ws′ (kept .table) (u .long ∙ p .long) d (sym (u .below ∙ p .below)) (kept .room) (kept .held) in
         let f = u .is-function ∙ p .is-function in
         let q = u .is-node ∙ p .is-node in
         let c = u .is-count ∙ p .is-count in
-        let locals : take (seat .count) (drop (32 * d + 8) ws′) ≡ take (seat .count) ls = ap (take (seat .count)) (u .above) ∙ p .is-locals in
+        let locals : take (seat .count) (drop (localsWord (32 * d)) ws′) ≡ take (seat .count) ls = ap (take (seat .count)) (u .above) ∙ p .is-locals in
         let slot : slotAt ws′ (32 * d) ≡ ordinary (right-operand code (j .left)) = rw (u .is-kind, f, q, c, u .is-value, locals) in
         let stack : stackOf ws′ (d + 1) ≡ ordinary (right-operand code (j .left)) ∷ S = sym (stack-more ws′ d) ∙ rw (slot, same .0) in
         let opens : next w code (nodeAt w (startOf w (seat .function)) (seat .node)) ≡ open-frame (left-operand code) (first code) = rw (operation-in w (kept .table) here t .1) in
@@ -146,7 +146,7 @@ module _ (w ws ls : List ℕ) (plan : Plan) (g : Compact) (s : Starts w ws ls pl
         })
 
   -- a value
-  module _ (v top : ℕ) (e : g .control ≡ Ret v) (d : g .depth ≡ top + 1) (k : getD ws (32 * top) 0 ≡ 0) where
+  module _ (v top : ℕ) (e : g .control ≡ Ret v) (d : g .depth ≡ top + 1) (k : frameKind ws (32 * top) ≡ 0) where
     pub rebound-strides : (next : Compact) → Rebound w ws g v top next → Strides w ws ls plan g ws ls (Go next)
     unfolding controlOf Controlled slotOf promotable
     rebound-strides next j =
@@ -309,7 +309,7 @@ module _ (w ws ls : List ℕ) (plan : Plan) (g : Compact) (v top kind : ℕ) (q 
   asked s e j k p starts a = rw (e, ← k) (returned, p, a)
 
 module _ (w ws ls : List ℕ) (plan : Plan) (g : Compact) (v top : ℕ) (q : Returning w ws ls plan g v top 0) where
-  pub operand : Operand w ws top
+  pub operand : Operand w ws (32 * top)
   operand =
       let t = returned w ws ls plan g v top 0 q in
       record { table = t .ready .kept .table; room = room w ws ls plan (full g) v top 0 t; stands = frame-top w ws ls plan (full g) v top 0 t .stands; tag = frame-tag w ws ls plan (full g) v top 0 t }

@@ -13,7 +13,7 @@ use Rattle.schedule.specs.Bounds.{step-by}
 use Rattle.schedule.specs.Stretch.{Leads, Through}
 use Rattle.table.specs.Words.{startOf}
 use Rattle.table.specs.WellFormed.{WellFormed}
-use Rattle.frames.specs.Frames.{pushed, turned}
+use Rattle.frames.specs.Frames.{frameKind, pushed, turned}
 use Rattle.language.specs.Language.{Code, left-operand, language}
 use Rattle.moves.specs.declared.Control.{Control}
 use Rattle.moves.specs.declared.Control.the-variants.{Eval, Ret}
@@ -107,7 +107,7 @@ pub record Half (w ws ls : List ℕ) (g : Compact) (seat : Seat) (ws′ : List �
   pub first : Leads (language w) (codeOf seat (seat .node + 1) ls) (return left) cost most
   pub second : right ≡ getD w (startOf w (seat .function) + 4 * seat .node + 2) 0
   pub room : Roomy g (length ws / 32) (cost + 2) (most + 1)
-  pub words : ws′ ≡ turned (pushed ws (g .depth) 1 (seat .function) (seat .node) (seat .count) ls 0) (g .depth) 1 left 0
+  pub words : ws′ ≡ turned (pushed ws (32 * g .depth) 1 (seat .function) (seat .node) (seat .count) ls 0) (32 * g .depth) 1 left 0
 
 -- an arithmetic whose left operand is simple: both operands, or its frame with the left one
 pub data Paired (w ws ls : List ℕ) (g : Compact) (seat : Seat) (ws′ : List ℕ) (r : Progress) : Type 0 where
@@ -140,4 +140,4 @@ pub record Returning (w ws ls : List ℕ) (plan : Plan) (g : Compact) (v top kin
   pub calm : Calm w ws ls plan g
   pub is : g .control ≡ Ret v
   pub depth : g .depth ≡ top + 1
-  pub of-kind : getD ws (32 * top) 0 ≡ kind
+  pub of-kind : frameKind ws (32 * top) ≡ kind

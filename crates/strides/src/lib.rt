@@ -25,12 +25,6 @@ ghost use Rattle.compact.specs.Compact.{full, Small};
 ghost use Rattle.operands.specs.Operands.{costAt};
 ghost use Rattle.strides.specs.Strides.{Strides, Starts, Calm, Tagged, Evaluating, Jumps, Paired, Led, Rebounds, Returning};
 
-fn index(x: u64) -> usize
-    ensures { λ r. ⌜ r ≡ x ⌝ }
-{
-    x as usize
-}
-
 // An arithmetic whose operands are both simple; the left one has the value x.
 fn whole(
     words: &[u32],
@@ -88,9 +82,10 @@ fn half(
         let depth = g.depth;
         let f = seat.function;
         let count = seat.count;
+        let b = frames::WORDS * depth;
         frames::push(
             ws,
-            depth,
+            b,
             moves::RIGHT_OPERAND,
             f,
             seat.node,
@@ -98,7 +93,7 @@ fn half(
             locals,
             Span::none(),
         );
-        frames::turn(ws, depth, moves::RIGHT_OPERAND, x, Span::none());
+        frames::turn(ws, b, moves::RIGHT_OPERAND, x, Span::none());
         let control = Control::Eval(f, operands::wide(words[at + 2]), count);
         Progress::Go(compact::later(g, control, depth + 1, k + 2, h))
     } else {
@@ -547,13 +542,14 @@ fn evaluate(
 
 // A value that returns to an arithmetic frame whose right operand is simple.
 fn rebound(words: &[u32], starts: &[usize], ws: &[u64], g: Compact, v: u64, top: usize) -> Progress
-    requires { ⌜ (Operand (now words) (now ws) top) × (Small g) × (g .depth ≡ top + 1) × (now starts ≡ startsOf (now words)) ⌝ }
+    requires { ⌜ (Operand (now words) (now ws) (32 * top)) × (Small g) × (g .depth ≡ top + 1) × (now starts ≡ startsOf (now words)) ⌝ }
     ensures { λ r. ⌜ Rebounds (now (words .entry)) (now (ws .entry)) g v top r ⌝ }
 {
     let b = frames::WORDS * top;
-    let f = index(ws[b + frames::FUNCTION]);
+    let frame = frames::read(ws, b);
+    let f = frame.function;
     let start = starts[f];
-    let at = start + 4 * index(ws[b + frames::NODE]);
+    let at = start + 4 * frame.node;
     let right = start + 4 * operands::wide(words[at + 2]);
     let k = operands::cost(words, right);
     let h = operands::frames_of(k);
@@ -693,18 +689,15 @@ fn ret(
         Progress::Value(v)
     } else {
         let top = depth - 1;
-        let kind = ws[frames::WORDS * top];
+        let frame = frames::read(ws, frames::WORDS * top);
+        let kind = frame.kind;
         let fuel = plan.fuel;
         if moves::PROMOTED_LEFT <= kind {
             arrive(words, starts, ws, locals, plan, g, v, top, kind)
         } else if fuel.allows(g.transitions) {
             ret_paid(words, starts, ws, locals, plan, g, v, top, kind)
         } else {
-            let step = moves::halt(
-                20,
-                index(ws[frames::WORDS * top + frames::FUNCTION]),
-                index(ws[frames::WORDS * top + frames::NODE]),
-            );
+            let step = moves::halt(20, frame.function, frame.node);
             compact::settle(plan, step)
         }
     }

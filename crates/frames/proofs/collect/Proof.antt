@@ -7,9 +7,6 @@ use borrow.Author.Needs.{needs}
 use Rattle.frames.proofs.collect.Statement.{statement}
 use Rattle.frames.proofs.collect.Tie as tie
 
-mul-b : tie.Need-mul-b
-mul-b c = search needs
-
 add-ws : tie.Need-add-ws
 add-ws c = search needs
 
@@ -45,7 +42,6 @@ pub collect-spec : {M : Type 1} → statement M
 collect-spec =
     tie.close
     (tie.spec
-    mul-b
     add-ws
     add-ws-2
     mul-ws

@@ -5,9 +5,6 @@ use borrow.Author.Needs.{needs}
 use Rattle.frames.proofs.mark.Statement.{statement}
 use Rattle.frames.proofs.mark.Tie as tie
 
-mul-b : tie.Need-mul-b
-mul-b c = search needs
-
 mul-ws : tie.Need-mul-ws
 mul-ws c = search needs
 
@@ -32,4 +29,4 @@ returns c = search needs
 pub mark-spec : {M : Type 1} → statement M
 mark-spec =
     tie.close
-    (tie.spec mul-b mul-ws slice-write-ws add-ws mul-ws-2 slice-write-ws-2 same-length returns)
+    (tie.spec mul-ws slice-write-ws add-ws mul-ws-2 slice-write-ws-2 same-length returns)

@@ -1,4 +1,4 @@
--- `frames::push` meets its contract, which is its six stores and the copy. Assumes nothing.
+-- `frames::push` meets its contract, which is its six stores and the saver's. Assumes nothing.
 use mathlib.Core.Path.{_∙_}
 use native.Mathlib.Omega.{arith}
 use lib.ListN.{length-set}
@@ -6,9 +6,6 @@ use Rattle.frames.specs.Frames.{pushed}
 use borrow.Author.Needs.{needs}
 use Rattle.frames.proofs.push.Statement.{statement}
 use Rattle.frames.proofs.push.Tie as tie
-
-mul-b : tie.Need-mul-b
-mul-b c = search needs
 
 mul-ws : tie.Need-mul-ws
 mul-ws c = search needs
@@ -61,24 +58,20 @@ mul-ws-6 c = search needs
 slice-write-ws-6 : tie.Need-slice-write-ws-6
 slice-write-ws-6 c = simp length-set (omega arith)
 
-add-copy : tie.Need-add-copy
-add-copy c = search needs
-
-copy-requires : tie.Need-copy-requires
-copy-requires c κs = (simp length-set (omega arith), omega arith)
+save-locals-requires : tie.Need-save-locals-requires
+save-locals-requires c κs = (simp length-set (omega arith), omega arith, omega arith)
 
 same-length : tie.Need-same-length
-same-length c = c .before .before .copy .kept .0 ∙ simp length-set
+same-length c = c .before .before .save-locals .kept .0 ∙ simp length-set
 
 returns : tie.Need-returns
 unfolding pushed
-returns c = c .before .before .copy .ensures
+returns c = c .before .before .save-locals .ensures
 
 pub push-spec : {M : Type 1} → statement M
 push-spec =
     tie.close
     (tie.spec
-    mul-b
     mul-ws
     slice-write-ws
     add-ws
@@ -96,7 +89,6 @@ push-spec =
     add-ws-5
     mul-ws-6
     slice-write-ws-6
-    add-copy
-    copy-requires
+    save-locals-requires
     same-length
     returns)

@@ -7,9 +7,6 @@ use borrow.Author.Needs.{needs}
 use Rattle.frames.proofs.turn.Statement.{statement}
 use Rattle.frames.proofs.turn.Tie as tie
 
-mul-b : tie.Need-mul-b
-mul-b c = search needs
-
 mul-ws : tie.Need-mul-ws
 mul-ws c = search needs
 
@@ -45,7 +42,6 @@ pub turn-spec : {M : Type 1} → statement M
 turn-spec =
     tie.close
     (tie.spec
-    mul-b
     mul-ws
     slice-write-ws
     add-ws

@@ -1,59 +1,47 @@
 -- `moves::body` meets its contract, by the laws of Frames.
-use Rattle.moves.specs.declared.Seat.{Seat}
-use Prim.Native.Nat.{_+_, _*_}
-use lib.ListN.{getD}
-use Rattle.moves.proofs.Frames.{concluded}
-use mathlib.Core.Path.{_≡_, ap}
 use native.Mathlib.Omega.{arith}
+use mathlib.Core.Path.{_≡_, ap, _∙_}
+use Rattle.moves.proofs.Frames.{concluded}
+use Rattle.frames.specs.Frames.{frameCount}
+use Rattle.frames.specs.declared.Frame.{Frame}
+use Rattle.moves.specs.declared.Seat.{Seat}
 use borrow.Author.Needs.{needs}
 use Rattle.moves.proofs.body.Statement.{statement}
 use Rattle.moves.proofs.body.Tie as tie
 
-mul-left : tie.Need-mul-left
-mul-left c = search needs
-
-add-left : tie.Need-add-left
-add-left c = search needs
-
-mul-left-2 : tie.Need-mul-left-2
-mul-left-2 c = search needs
-
-shared-slice-read-left : tie.Need-shared-slice-read-left
-shared-slice-read-left c = search needs
+read-requires : tie.Need-read-requires
+read-requires c κs = search needs
 
 child-requires : tie.Need-child-requires
 child-requires c κs = search needs
 
 append-requires : tie.Need-append-requires
-append-requires c κs = let k : c .before .before .before .child .result .count ≡ getD (c .before .before .before .before .before .before .before .before .before .before .args .ws .now) (32 * c .before .before .before .before .before .before .before .before .before .before .args .top + 3) 0 = ap (λ (z : Seat). z .count) (c .before .before .before .child .ensures .seat) in omega (arith, c .before .before .before .child .kept .1 .1 .1 .0, c .before .before .before .before .before .before .before .before .before .before .pre .0 .sixteen, c .before .before .before .before .before .before .before .before .before .before .pre .2)
+append-requires c κs = let entry = c .before .before .before .before .before .before .before .before .before .before in let k : c .before .before .before .child .result .count ≡ frameCount (entry .args .ws .now) (entry .args .b) = ap (λ (z : Seat). z .count) (c .before .before .before .child .ensures .seat) in omega (arith, c .before .before .before .child .kept .1 .1 .1 .0, entry .pre .0 .sixteen, entry .pre .2)
 
 add-append : tie.Need-add-append
-add-append c = let k : c .before .before .before .before .before .before .before .child .result .count ≡ getD (c .before .before .before .before .before .before .before .before .before .before .before .before .before .before .args .ws .now) (32 * c .before .before .before .before .before .before .before .before .before .before .before .before .before .before .args .top + 3) 0 = ap (λ (z : Seat). z .count) (c .before .before .before .before .before .before .before .child .ensures .seat) in omega (arith, c .before .before .before .before .before .before .before .before .before .before .before .before .before .before .pre .2)
+add-append c = let entry = c .before .before .before .before .before .before .before .before .before .before .before .before .before .before in let k : c .before .before .before .before .before .before .before .child .result .count ≡ frameCount (entry .args .ws .now) (entry .args .b) = ap (λ (z : Seat). z .count) (c .before .before .before .before .before .before .before .child .ensures .seat) in omega (arith, entry .pre .2)
 
 append-requires-2 : tie.Need-append-requires-2
-append-requires-2 c κs = let k : c .before .before .before .before .before .before .before .child .result .count ≡ getD (c .before .before .before .before .before .before .before .before .before .before .before .before .before .before .args .ws .now) (32 * c .before .before .before .before .before .before .before .before .before .before .before .before .before .before .args .top + 3) 0 = ap (λ (z : Seat). z .count) (c .before .before .before .before .before .before .before .child .ensures .seat) in omega (arith, c .before .before .before .append .kept .0, c .before .before .before .before .before .before .before .child .kept .1 .1 .1 .0, c .before .before .before .before .before .before .before .before .before .before .before .before .before .before .pre .0 .sixteen, c .before .before .before .before .before .before .before .before .before .before .before .before .before .before .pre .2)
+append-requires-2 c κs = let entry = c .before .before .before .before .before .before .before .before .before .before .before .before .before .before in let k : c .before .before .before .before .before .before .before .child .result .count ≡ frameCount (entry .args .ws .now) (entry .args .b) = ap (λ (z : Seat). z .count) (c .before .before .before .before .before .before .before .child .ensures .seat) in omega (arith, c .before .before .before .append .kept .0, c .before .before .before .before .before .before .before .child .kept .1 .1 .1 .0, entry .pre .0 .sixteen, entry .pre .2)
 
-add-t11 : tie.Need-add-t11
-add-t11 c = let k : c .before .before .before .before .before .before .before .before .before .before .child .result .count ≡ getD (c .before .before .before .before .before .before .before .before .before .before .before .before .before .before .before .before .before .args .ws .now) (32 * c .before .before .before .before .before .before .before .before .before .before .before .before .before .before .before .before .before .args .top + 3) 0 = ap (λ (z : Seat). z .count) (c .before .before .before .before .before .before .before .before .before .before .child .ensures .seat) in omega (arith, c .before .before .before .before .before .before .before .before .before .before .before .before .before .before .before .before .before .pre .2)
+add-t17 : tie.Need-add-t17
+add-t17 c = let entry = c .before .before .before .before .before .before .before .before .before .before .before .before .before .before .before .before .before in let k : c .before .before .before .before .before .before .before .before .before .before .child .result .count ≡ frameCount (entry .args .ws .now) (entry .args .b) = ap (λ (z : Seat). z .count) (c .before .before .before .before .before .before .before .before .before .before .child .ensures .seat) in omega (arith, entry .pre .2)
 
 same-length : tie.Need-same-length
 same-length c = search needs
 
 returns : tie.Need-returns
-returns c = concluded _ _ _ _ _ _ _ _ _ (c .before .before .before .before .before .before .before .before .before .before .child .ensures) (c .before .before .before .before .before .before .append .ensures) (c .before .before .append2 .ensures)
+returns c = concluded _ _ _ _ _ _ _ _ _ (c .before .before .before .before .before .before .before .before .before .before .child .ensures) (rw (c .before .before .before .before .before .before .before .before .before .before .before .before .read .ensures) at (c .before .before .before .before .before .before .append .ensures)) (c .before .before .append2 .ensures)
 
 pub body-spec : {M : Type 1} → statement M
 body-spec =
     tie.close
     (tie.spec
-    mul-left
-    add-left
-    mul-left-2
-    shared-slice-read-left
+    read-requires
     child-requires
     append-requires
     add-append
     append-requires-2
-    add-t11
+    add-t17
     same-length
     returns)

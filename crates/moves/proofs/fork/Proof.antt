@@ -7,14 +7,17 @@ use borrow.Author.Needs.{needs}
 use Rattle.moves.proofs.fork.Statement.{statement}
 use Rattle.moves.proofs.fork.Tie as tie
 
+mul-b : tie.Need-mul-b
+mul-b c = search needs
+
 push-requires : tie.Need-push-requires
 push-requires c κs = search needs
 
 rise-requires : tie.Need-rise-requires
 rise-requires c κs = search needs
 
-add-t19 : tie.Need-add-t19
-add-t19 c = search needs
+add-t20 : tie.Need-add-t20
+add-t20 c = search needs
 
 add-restart : tie.Need-add-restart
 add-restart c = search needs
@@ -44,9 +47,10 @@ pub fork-spec : {M : Type 1} → statement M
 fork-spec =
     tie.close
     (tie.spec
+    mul-b
     push-requires
     rise-requires
-    add-t19
+    add-t20
     add-restart
     none-requires
     add-restart-2

@@ -6,6 +6,9 @@ use borrow.Author.Needs.{needs}
 use Rattle.moves.proofs.last_argument.Statement.{statement}
 use Rattle.moves.proofs.last_argument.Tie as tie
 
+mul-load-arguments : tie.Need-mul-load-arguments
+mul-load-arguments c = search needs
+
 load-arguments-requires : tie.Need-load-arguments-requires
 load-arguments-requires c κs = let entry = c .before .before .before .before in omega (arith, room (entry .args .words .now) (entry .args .ws .now) (entry .args .locals .now) (entry .args .plan) (entry .args .s) (entry .args .v) (entry .args .top) 4 (entry .pre .0), few-here (entry .args .words .now) (entry .args .ws .now) (entry .args .locals .now) (entry .args .plan) (entry .args .s) (entry .args .v) (entry .args .top) (entry .pre .0) (entry .args .n) (entry .pre .2), entry .pre .0 .ready .kept .sixteen)
 
@@ -27,4 +30,11 @@ returns c = let entry = c .before .before .before .before .before .before .befor
 pub last-argument-spec : {M : Type 1} → statement M
 last-argument-spec =
     tie.close
-    (tie.spec load-arguments-requires append-requires add-count tick-requires same-length returns)
+    (tie.spec
+    mul-load-arguments
+    load-arguments-requires
+    append-requires
+    add-count
+    tick-requires
+    same-length
+    returns)

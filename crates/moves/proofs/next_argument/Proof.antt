@@ -6,6 +6,9 @@ use borrow.Author.Needs.{needs}
 use Rattle.moves.proofs.next_argument.Statement.{statement}
 use Rattle.moves.proofs.next_argument.Tie as tie
 
+mul-b : tie.Need-mul-b
+mul-b c = search needs
+
 collect-requires : tie.Need-collect-requires
 collect-requires c κs = let entry = c .before .before .before .before .before in (room (entry .args .words .now) (entry .args .ws .now) (entry .args .locals .now) (entry .args .plan) (entry .args .s) (entry .args .v) (entry .args .top) 4 (entry .pre .0), few-here (entry .args .words .now) (entry .args .ws .now) (entry .args .locals .now) (entry .args .plan) (entry .args .s) (entry .args .v) (entry .args .top) (entry .pre .0) (entry .args .n) (entry .pre .3))
 
@@ -34,6 +37,7 @@ pub next-argument-spec : {M : Type 1} → statement M
 next-argument-spec =
     tie.close
     (tie.spec
+    mul-b
     collect-requires
     add-child
     child-requires

@@ -14,6 +14,9 @@ use Rattle.moves.proofs.open.Tie as tie
 allows-requires : tie.Need-allows-requires
 allows-requires c κs = search needs
 
+mul-b : tie.Need-mul-b
+mul-b c = search needs
+
 none-requires : tie.Need-none-requires
 none-requires c κs = search needs
 
@@ -23,8 +26,8 @@ push-requires c κs = search needs
 rise-requires : tie.Need-rise-requires
 rise-requires c κs = search needs
 
-add-t25 : tie.Need-add-t25
-add-t25 c = search needs
+add-t26 : tie.Need-add-t26
+add-t26 c = search needs
 
 add-tick : tie.Need-add-tick
 add-tick c = search needs
@@ -57,10 +60,11 @@ open-spec =
     tie.close
     (tie.spec
     allows-requires
+    mul-b
     none-requires
     push-requires
     rise-requires
-    add-t25
+    add-t26
     add-tick
     tick-requires
     halt-requires

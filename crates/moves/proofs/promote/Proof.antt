@@ -4,6 +4,9 @@ use borrow.Author.Needs.{needs}
 use Rattle.moves.proofs.promote.Statement.{statement}
 use Rattle.moves.proofs.promote.Tie as tie
 
+mul-mark : tie.Need-mul-mark
+mul-mark c = search needs
+
 mark-requires : tie.Need-mark-requires
 mark-requires c κs = search needs
 
@@ -32,6 +35,7 @@ pub promote-spec : {M : Type 1} → statement M
 promote-spec =
     tie.close
     (tie.spec
+    mul-mark
     mark-requires
     add-search
     search-requires

@@ -5,6 +5,9 @@ use borrow.Author.Needs.{needs}
 use Rattle.moves.proofs.ret_condition.Statement.{statement}
 use Rattle.moves.proofs.ret_condition.Tie as tie
 
+mul-child : tie.Need-mul-child
+mul-child c = search needs
+
 child-requires : tie.Need-child-requires
 child-requires c κs = let entry = c .before .before .before .before .before in (sitting (entry .args .words .now) (entry .args .ws .now) (entry .args .locals .now) (entry .args .plan) (entry .args .s) (entry .args .v) (entry .args .top) 2 (entry .pre .0), entry .pre .2)
 
@@ -18,4 +21,5 @@ returns : tie.Need-returns
 returns c = let entry = c .before .before .before .before .before .before .before .before .before in stepped-condition (entry .args .words .now) (entry .args .ws .now) (entry .args .locals .now) (entry .args .plan) (entry .args .s) (entry .args .v) (entry .args .top) (entry .pre .0) (entry .pre .1) _ _ (c .before .before .before .child .ensures) _ (c .tick .ensures)
 
 pub ret-condition-spec : {M : Type 1} → statement M
-ret-condition-spec = tie.close (tie.spec child-requires tick-requires same-length returns)
+ret-condition-spec =
+    tie.close (tie.spec mul-child child-requires tick-requires same-length returns)

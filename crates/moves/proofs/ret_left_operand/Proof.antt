@@ -5,6 +5,9 @@ use borrow.Author.Needs.{needs}
 use Rattle.moves.proofs.ret_left_operand.Statement.{statement}
 use Rattle.moves.proofs.ret_left_operand.Tie as tie
 
+mul-b : tie.Need-mul-b
+mul-b c = search needs
+
 none-requires : tie.Need-none-requires
 none-requires c κs = search needs
 
@@ -33,6 +36,7 @@ pub ret-left-operand-spec : {M : Type 1} → statement M
 ret-left-operand-spec =
     tie.close
     (tie.spec
+    mul-b
     none-requires
     turn-requires
     child-requires

@@ -5,6 +5,9 @@ use borrow.Author.Needs.{needs}
 use Rattle.moves.proofs.ret_plain_left.Statement.{statement}
 use Rattle.moves.proofs.ret_plain_left.Tie as tie
 
+mul-b : tie.Need-mul-b
+mul-b c = search needs
+
 none-requires : tie.Need-none-requires
 none-requires c κs = search needs
 
@@ -36,6 +39,7 @@ pub ret-plain-left-spec : {M : Type 1} → statement M
 ret-plain-left-spec =
     tie.close
     (tie.spec
+    mul-b
     none-requires
     turn-requires
     child-requires

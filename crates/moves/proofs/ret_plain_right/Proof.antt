@@ -5,6 +5,9 @@ use borrow.Author.Needs.{needs}
 use Rattle.moves.proofs.ret_plain_right.Statement.{statement}
 use Rattle.moves.proofs.ret_plain_right.Tie as tie
 
+mul-body : tie.Need-mul-body
+mul-body c = search needs
+
 body-requires : tie.Need-body-requires
 body-requires c κs = let entry = c .before .before .before .before .before in (sitting (entry .args .words .now) (entry .args .ws .now) (entry .args .locals .now) (entry .args .plan) (entry .args .s) (entry .args .v) (entry .args .top) 6 (entry .pre .0), entry .pre .2, plain-few (entry .args .words .now) (entry .args .ws .now) (entry .args .locals .now) (entry .args .plan) (entry .args .s) (entry .args .v) (entry .args .top) (entry .pre .0))
 
@@ -18,4 +21,5 @@ returns : tie.Need-returns
 returns c = let entry = c .before .before .before .before .before .before .before .before .before in stepped-plain-right (entry .args .words .now) (entry .args .ws .now) (entry .args .locals .now) (entry .args .plan) (entry .args .s) (entry .args .v) (entry .args .top) (entry .pre .0) (entry .pre .1) _ _ (c .before .before .before .body .ensures) _ (c .tick .ensures)
 
 pub ret-plain-right-spec : {M : Type 1} → statement M
-ret-plain-right-spec = tie.close (tie.spec body-requires tick-requires same-length returns)
+ret-plain-right-spec =
+    tie.close (tie.spec mul-body body-requires tick-requires same-length returns)

@@ -1,14 +1,14 @@
 -- `moves::search` meets its contract, by the laws of OldestFork.
-use native.Mathlib.Omega.{arith}
-use Prim.Native.Nat.{ℕ, _-_, _*_, _<_, _≤_}
-use mathlib.Core.Path.{_≡_, refl}
-use lib.ListN.{getD}
 use Rattle.moves.proofs.OldestFork.{found-more}
+use Rattle.frames.specs.Frames.{frameKind}
+use mathlib.Core.Path.{_≡_, refl}
+use Prim.Native.Nat.{ℕ, _-_, _*_, _<_, _≤_}
+use native.Mathlib.Omega.{arith}
 use Rattle.moves.proofs.search.Statement.{statement}
 use Rattle.moves.proofs.search.Tie as tie
 
 abbrev Inv-loop : tie.InvT-loop
-Inv-loop ws from depth i₀ i = (from ≤ i) × (i ≤ depth) × ((j : ℕ) → from ≤ j → j < i → getD ws (32 * j) 0 ≡ 5 → ⊥)
+Inv-loop ws from depth i₀ i = (from ≤ i) × (i ≤ depth) × ((j : ℕ) → from ≤ j → j < i → frameKind ws (32 * j) ≡ 5 → ⊥)
 
 abbrev μ-loop : tie.MeasureT-loop
 μ-loop ws from depth i₀ i = depth - i
@@ -16,17 +16,14 @@ abbrev μ-loop : tie.MeasureT-loop
 loop-holds : tie.Need-loop-holds Inv-loop μ-loop
 loop-holds c = (omega arith, omega arith, λ j a b. absurd (omega arith))
 
-mul-if1 : tie.Need-mul-if1 Inv-loop μ-loop
-mul-if1 c = omega arith
+mul-read : tie.Need-mul-read Inv-loop μ-loop
+mul-read c = omega arith
 
-mul-if1-2 : tie.Need-mul-if1-2 Inv-loop μ-loop
-mul-if1-2 c = omega arith
-
-shared-slice-read-if1 : tie.Need-shared-slice-read-if1 Inv-loop μ-loop
-shared-slice-read-if1 c = omega arith
+read-requires : tie.Need-read-requires Inv-loop μ-loop
+read-requires c κs = omega arith
 
 returns : tie.Need-returns Inv-loop μ-loop
-returns c = record { after = c .before .before .before .loop .inv .0; below = λ j a b d. c .before .before .before .loop .inv .2 j a d; is = λ h. c .if1 .taken; none = λ h. absurd (omega arith) }
+returns c = record { after = c .before .before .before .before .loop .inv .0; below = λ j a b d. c .before .before .before .before .loop .inv .2 j a d; is = λ h. rw (c .before .before .read .ensures) at (c .if1 .taken); none = λ h. absurd (omega arith) }
 
 add-i : tie.Need-add-i Inv-loop μ-loop
 add-i c = omega arith
@@ -35,7 +32,7 @@ loop-less : tie.Need-loop-less Inv-loop μ-loop
 loop-less c = omega arith
 
 loop-again : tie.Need-loop-again Inv-loop μ-loop
-loop-again c = let entry = c .before .before .before .before in (omega arith, omega arith, found-more (entry .args .ws .now) (entry .args .from) (c .before .before .before .loop .i) (c .before .before .before .loop .inv .2) (c .if1 .left))
+loop-again c = (omega arith, omega arith, found-more (c .before .before .before .before .before .before .args .ws .now) (c .before .before .before .before .before .before .args .from) (c .before .before .before .before .loop .i) (c .before .before .before .before .loop .inv .2) (rw (c .before .before .read .ensures) at (c .if1 .left)))
 
 returns-2 : tie.Need-returns-2 Inv-loop μ-loop
 returns-2 c = record { after = omega arith; below = λ j a b d. c .before .loop .inv .2 j a (omega arith); is = λ h. absurd (omega arith); none = λ h. refl }
@@ -47,9 +44,8 @@ search-spec =
     Inv-loop
     μ-loop
     loop-holds
-    mul-if1
-    mul-if1-2
-    shared-slice-read-if1
+    mul-read
+    read-requires
     returns
     add-i
     loop-less

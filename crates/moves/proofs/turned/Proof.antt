@@ -4,6 +4,9 @@ use borrow.Author.Needs.{needs}
 use Rattle.moves.proofs.turned.Statement.{statement}
 use Rattle.moves.proofs.turned.Tie as tie
 
+mul-b : tie.Need-mul-b
+mul-b c = search needs
+
 turn-requires : tie.Need-turn-requires
 turn-requires c κs = let entry = c .before .before .before .before .before .before in room (entry .args .words .now) (entry .args .ws .now) (entry .args .locals .now) (entry .args .plan) (entry .args .s) (entry .args .v) (entry .args .top) 7 (entry .pre .0)
 
@@ -32,6 +35,7 @@ pub turned-spec : {M : Type 1} → statement M
 turned-spec =
     tie.close
     (tie.spec
+    mul-b
     turn-requires
     child-requires
     add-restart

@@ -16,6 +16,9 @@ fits-requires c κs =
     let s = c .before .before .before .before in
     (s .pre .0 .site .small, omega (arith, s .pre .1 .few), omega arith, omega (arith, one-frame _ (s .args .k) (c .frames-of .ensures)))
 
+mul-b : tie.Need-mul-b
+mul-b c = omega (arith, c .before .fits2 .ensures (c .if1 .taken) .1 .within)
+
 none-requires : tie.Need-none-requires
 none-requires c κs = search needs
 
@@ -75,6 +78,7 @@ half-spec =
     frames-of-requires
     add-h
     fits-requires
+    mul-b
     none-requires
     push-requires
     none-requires-2

@@ -1,7 +1,7 @@
 -- `strides::rebound` meets its contract, by the laws of Rebounding.
+use native.Mathlib.Omega.{arith}
 use Rattle.strides.proofs.Rebounding.{frame-start, frame-inside, right-cost, right-few, right-simple, rebounded}
 use Rattle.strides.specs.Strides.{Rebounds}
-use native.Mathlib.Omega.{arith}
 use borrow.Author.Needs.{needs}
 use Rattle.strides.proofs.rebound.Statement.{statement}
 use Rattle.strides.proofs.rebound.Tie as tie
@@ -9,86 +9,65 @@ use Rattle.strides.proofs.rebound.Tie as tie
 mul-b : tie.Need-mul-b
 mul-b c = search needs
 
-add-index : tie.Need-add-index
-add-index c = search needs
-
-mul-index : tie.Need-mul-index
-mul-index c = search needs
-
-shared-slice-read-index : tie.Need-shared-slice-read-index
-shared-slice-read-index c = search needs
-
-index-requires : tie.Need-index-requires
-index-requires c κs = search needs
+read-requires : tie.Need-read-requires
+read-requires c κs = search needs
 
 mul-start : tie.Need-mul-start
-mul-start c = search needs
+mul-start c = let p = c .before .before .before .before in omega (arith, frame-start (p .args .top) (p .pre .0) (p .pre .3) (c .read .ensures))
 
 shared-slice-read-start : tie.Need-shared-slice-read-start
-shared-slice-read-start c = let i = c .before in let p = i .before .before .before .before .before in frame-start (p .pre .0) (p .pre .3) (i .index .ensures)
-
-add-index-2 : tie.Need-add-index-2
-add-index-2 c = search needs
-
-mul-index-2 : tie.Need-mul-index-2
-mul-index-2 c = search needs
-
-shared-slice-read-index-2 : tie.Need-shared-slice-read-index-2
-shared-slice-read-index-2 c = search needs
-
-index-requires-2 : tie.Need-index-requires-2
-index-requires-2 c κs = search needs
+shared-slice-read-start c = let p = c .before .before .before .before .before in frame-start (p .args .top) (p .pre .0) (p .pre .3) (c .before .read .ensures)
 
 mul-at : tie.Need-mul-at
-mul-at c = let i = c .before .before .before in let p = i .before .before .before .before .before in omega (arith, frame-inside (p .pre .0) (p .pre .3) (i .index .ensures) (c .index2 .ensures))
+mul-at c = let p = c .before .before .before .before .before .before in omega (arith, frame-inside (p .args .top) (p .pre .0) (p .pre .3) (c .before .before .read .ensures))
 
 add-at : tie.Need-add-at
-add-at c = let i = c .before .before .before in let p = i .before .before .before .before .before in omega (arith, frame-inside (p .pre .0) (p .pre .3) (i .index .ensures) (c .index2 .ensures))
+add-at c = let p = c .before .before .before .before .before .before in omega (arith, frame-inside (p .args .top) (p .pre .0) (p .pre .3) (c .before .before .read .ensures))
 
 add-wide : tie.Need-add-wide
-add-wide c = let i = c .before .before .before in let p = i .before .before .before .before .before in omega (arith, frame-inside (p .pre .0) (p .pre .3) (i .index .ensures) (c .index2 .ensures))
+add-wide c = let p = c .before .before .before .before .before .before in omega (arith, frame-inside (p .args .top) (p .pre .0) (p .pre .3) (c .before .before .read .ensures))
 
 mul-wide : tie.Need-mul-wide
-mul-wide c = let i = c .before .before .before in let p = i .before .before .before .before .before in omega (arith, frame-inside (p .pre .0) (p .pre .3) (i .index .ensures) (c .index2 .ensures))
+mul-wide c = let p = c .before .before .before .before .before .before in omega (arith, frame-inside (p .args .top) (p .pre .0) (p .pre .3) (c .before .before .read .ensures))
 
 shared-slice-read-wide : tie.Need-shared-slice-read-wide
-shared-slice-read-wide c = let j = c .before in let i = j .before .before .before in let p = i .before .before .before .before .before in omega (arith, frame-inside (p .pre .0) (p .pre .3) (i .index .ensures) (j .index2 .ensures))
+shared-slice-read-wide c = let p = c .before .before .before .before .before .before .before in omega (arith, frame-inside (p .args .top) (p .pre .0) (p .pre .3) (c .before .before .before .read .ensures))
 
 wide-requires : tie.Need-wide-requires
 wide-requires c κs = search needs
 
 mul-right : tie.Need-mul-right
-mul-right c = let j = c .before .before in let i = j .before .before .before in let p = i .before .before .before .before .before in omega (arith, right-cost (p .pre .0) (p .pre .3) (i .index .ensures) (j .index2 .ensures) (c .wide .ensures) .inside)
+mul-right c = let p = c .before .before .before .before .before .before .before .before in omega (arith, right-cost (p .args .top) (p .pre .0) (p .pre .3) (c .before .before .before .before .read .ensures) (c .wide .ensures) .inside)
 
 add-right : tie.Need-add-right
-add-right c = let j = c .before .before in let i = j .before .before .before in let p = i .before .before .before .before .before in omega (arith, right-cost (p .pre .0) (p .pre .3) (i .index .ensures) (j .index2 .ensures) (c .wide .ensures) .inside)
+add-right c = let p = c .before .before .before .before .before .before .before .before in omega (arith, right-cost (p .args .top) (p .pre .0) (p .pre .3) (c .before .before .before .before .read .ensures) (c .wide .ensures) .inside)
 
 cost-requires : tie.Need-cost-requires
-cost-requires c κs = let j = c .before .before in let i = j .before .before .before in let p = i .before .before .before .before .before in right-cost (p .pre .0) (p .pre .3) (i .index .ensures) (j .index2 .ensures) (c .wide .ensures)
+cost-requires c κs = let p = c .before .before .before .before .before .before .before .before in right-cost (p .args .top) (p .pre .0) (p .pre .3) (c .before .before .before .before .read .ensures) (c .wide .ensures)
 
 frames-of-requires : tie.Need-frames-of-requires
 frames-of-requires c κs = search needs
 
 fits-requires : tie.Need-fits-requires
-fits-requires c κs = let k = c .before in let w = k .before in let j = w .before .before in let i = j .before .before .before in let p = i .before .before .before .before .before in let few = right-few (p .pre .0) (p .pre .3) (i .index .ensures) (j .index2 .ensures) (w .wide .ensures) (k .cost .ensures) in (p .pre .1, omega arith, omega arith, omega (arith, c .frames-of .ensures))
+fits-requires c κs = let p = c .before .before .before .before .before .before .before .before .before .before in let few = right-few (p .args .top) (p .pre .0) (p .pre .3) (c .before .before .before .before .before .before .read .ensures) (c .before .before .wide .ensures) (c .before .cost .ensures) in (p .pre .1, omega arith, omega arith, omega (arith, c .frames-of .ensures))
 
 add-simple : tie.Need-add-simple
 add-simple c = search needs
 
 simple-requires : tie.Need-simple-requires
-simple-requires c κs = let k = c .before .before .before in let w = k .before in let j = w .before .before in let i = j .before .before .before in let p = i .before .before .before .before .before in right-simple (p .pre .0) (p .pre .3) (i .index .ensures) (j .index2 .ensures) (w .wide .ensures) (k .cost .ensures) (c .before .fits2 .ensures (c .if1 .taken) .0)
+simple-requires c κs = let p = c .before .before .before .before .before .before .before .before .before .before .before .before in right-simple (p .args .top) (p .pre .0) (p .pre .3) (c .before .before .before .before .before .before .before .before .read .ensures) (c .before .before .before .before .wide .ensures) (c .before .before .before .cost .ensures) (c .before .fits2 .ensures (c .if1 .taken) .0)
 
 enum-known-y : tie.Need-enum-known-y
 enum-known-y c = search needs
 
 add-operate : tie.Need-add-operate
-add-operate c = let j = c .before .before .before .before .before .before .before .before .before .before in let i = j .before .before .before in let p = i .before .before .before .before .before in omega (arith, frame-inside (p .pre .0) (p .pre .3) (i .index .ensures) (j .index2 .ensures))
+add-operate c = let p = c .before .before .before .before .before .before .before .before .before .before .before .before .before .before .before .before in omega (arith, frame-inside (p .args .top) (p .pre .0) (p .pre .3) (c .before .before .before .before .before .before .before .before .before .before .before .before .read .ensures))
 
 mul-operate : tie.Need-mul-operate
-mul-operate c = let j = c .before .before .before .before .before .before .before .before .before .before in let i = j .before .before .before in let p = i .before .before .before .before .before in omega (arith, frame-inside (p .pre .0) (p .pre .3) (i .index .ensures) (j .index2 .ensures))
+mul-operate c = let p = c .before .before .before .before .before .before .before .before .before .before .before .before .before .before .before .before in omega (arith, frame-inside (p .args .top) (p .pre .0) (p .pre .3) (c .before .before .before .before .before .before .before .before .before .before .before .before .read .ensures))
 
 shared-slice-read-operate : tie.Need-shared-slice-read-operate
-shared-slice-read-operate c = let j = c .before .before .before .before .before .before .before .before .before .before .before in let i = j .before .before .before in let p = i .before .before .before .before .before in omega (arith, frame-inside (p .pre .0) (p .pre .3) (i .index .ensures) (j .index2 .ensures))
+shared-slice-read-operate c = let p = c .before .before .before .before .before .before .before .before .before .before .before .before .before .before .before .before .before in omega (arith, frame-inside (p .args .top) (p .pre .0) (p .pre .3) (c .before .before .before .before .before .before .before .before .before .before .before .before .before .read .ensures))
 
 operate-requires : tie.Need-operate-requires
 operate-requires c κs = search needs
@@ -97,10 +76,10 @@ enum-known-z : tie.Need-enum-known-z
 enum-known-z c = search needs
 
 add-later : tie.Need-add-later
-add-later c = let k = c .before .before .before .before .before .before .before .before .before .before .before .before in let w = k .before in let j = w .before .before in let i = j .before .before .before in let p = i .before .before .before .before .before in let few = right-few (p .pre .0) (p .pre .3) (i .index .ensures) (j .index2 .ensures) (w .wide .ensures) (k .cost .ensures) in omega arith
+add-later c = let p = c .before .before .before .before .before .before .before .before .before .before .before .before .before .before .before .before .before .before .before .before .before in let few = right-few (p .args .top) (p .pre .0) (p .pre .3) (c .before .before .before .before .before .before .before .before .before .before .before .before .before .before .before .before .before .read .ensures) (c .before .before .before .before .before .before .before .before .before .before .before .before .before .wide .ensures) (c .before .before .before .before .before .before .before .before .before .before .before .before .cost .ensures) in omega arith
 
 later-requires : tie.Need-later-requires
-later-requires c κs = let k = c .before .before .before .before .before .before .before .before .before .before .before .before in let w = k .before in let j = w .before .before in let i = j .before .before .before in let p = i .before .before .before .before .before in let few = right-few (p .pre .0) (p .pre .3) (i .index .ensures) (j .index2 .ensures) (w .wide .ensures) (k .cost .ensures) in (p .pre .1, omega arith, omega (arith, c .before .before .before .before .before .before .before .before .before .before .before .frames-of .ensures))
+later-requires c κs = let p = c .before .before .before .before .before .before .before .before .before .before .before .before .before .before .before .before .before .before .before .before .before in let few = right-few (p .args .top) (p .pre .0) (p .pre .3) (c .before .before .before .before .before .before .before .before .before .before .before .before .before .before .before .before .before .read .ensures) (c .before .before .before .before .before .before .before .before .before .before .before .before .before .wide .ensures) (c .before .before .before .before .before .before .before .before .before .before .before .before .cost .ensures) in (p .pre .1, omega arith, omega (arith, c .before .before .before .before .before .before .before .before .before .before .before .frames-of .ensures))
 
 enum-told : tie.Need-enum-told
 enum-told c = search needs
@@ -119,7 +98,7 @@ none-requires-3 c κs = search needs
 
 returns : tie.Need-returns
 unfolding Rebounds
-returns c = let k = c .before .before .before .before .before .before .before .before .before .before .before .before .before in let w = k .before in let j = w .before .before in let i = j .before .before .before in let p = i .before .before .before .before .before in rebounded (p .pre .0) (p .pre .3) (i .index .ensures) (j .index2 .ensures) (w .wide .ensures) (k .cost .ensures) (c .before .before .before .before .before .before .before .before .before .before .before .before .frames-of .ensures) (c .before .before .before .before .before .before .before .before .before .before .before .fits2 .ensures (c .before .before .before .before .before .before .before .before .before .before .if1 .taken)) (c .before .before .before .before .before .before .before .before .before .simple .ensures) (c .before .before .before .before .before .before .before .y .given .1) (c .before .before .before .before .operate .ensures) (c .before .before .z .given .1) (c .later .ensures)
+returns c = let p = c .before .before .before .before .before .before .before .before .before .before .before .before .before .before .before .before .before .before .before .before .before .before in rebounded (p .args .top) (p .pre .0) (p .pre .3) (c .before .before .before .before .before .before .before .before .before .before .before .before .before .before .before .before .before .before .read .ensures) (c .before .before .before .before .before .before .before .before .before .before .before .before .before .before .wide .ensures) (c .before .before .before .before .before .before .before .before .before .before .before .before .before .cost .ensures) (c .before .before .before .before .before .before .before .before .before .before .before .before .frames-of .ensures) (c .before .before .before .before .before .before .before .before .before .before .before .fits2 .ensures (c .before .before .before .before .before .before .before .before .before .before .if1 .taken)) (c .before .before .before .before .before .before .before .before .before .simple .ensures) (c .before .before .before .before .before .before .before .y .given .1) (c .before .before .before .before .operate .ensures) (c .before .before .z .given .1) (c .later .ensures)
 
 returns-2 : tie.Need-returns-2
 unfolding Rebounds
@@ -138,16 +117,9 @@ rebound-spec =
     tie.close
     (tie.spec
     mul-b
-    add-index
-    mul-index
-    shared-slice-read-index
-    index-requires
+    read-requires
     mul-start
     shared-slice-read-start
-    add-index-2
-    mul-index-2
-    shared-slice-read-index-2
-    index-requires-2
     mul-at
     add-at
     add-wide

@@ -1,11 +1,12 @@
 -- `strides::ret` meets its contract, by the laws of Striding, Settling.
-use mathlib.Core.Path.{refl, sym, _∙_}
+use mathlib.Core.Path.{ap, sym, _∙_}
 use native.Mathlib.Omega.{arith}
 use borrow.Author.Tests.{ltb-true, ltb-false}
-use Rattle.strides.proofs.Striding.{returned, done-strides}
-use Rattle.strides.proofs.Settling.{move-strides}
-use Rattle.compact.specs.Compact.{full, Settles}
+use Rattle.frames.specs.declared.Frame.{Frame}
 use Rattle.moves.proofs.Returning.{stepped-dry}
+use Rattle.compact.specs.Compact.{full, Settles}
+use Rattle.strides.proofs.Settling.{move-strides}
+use Rattle.strides.proofs.Striding.{returned, done-strides}
 use borrow.Author.Needs.{needs}
 use Rattle.strides.proofs.ret.Statement.{statement}
 use Rattle.strides.proofs.ret.Tie as tie
@@ -13,53 +14,20 @@ use Rattle.strides.proofs.ret.Tie as tie
 sub-top : tie.Need-sub-top
 sub-top c = search needs
 
-mul-kind : tie.Need-mul-kind
-mul-kind c = search needs
+mul-read : tie.Need-mul-read
+mul-read c = search needs
 
-mul-kind-2 : tie.Need-mul-kind-2
-mul-kind-2 c = search needs
-
-slice-read-kind : tie.Need-slice-read-kind
-slice-read-kind c = search needs
+read-requires : tie.Need-read-requires
+read-requires c κs = search needs
 
 arrive-requires : tie.Need-arrive-requires
-arrive-requires c κs = let p = c .before .before .before .before .before .before .before .before .before .before in (record { calm = p .pre .0; is = p .pre .1; depth = omega arith; of-kind = refl }, c .before .before .if2 .taken, p .pre .2)
+arrive-requires c κs = let p = c .before .before .before .before .before .before .before .before .before .before .before in (record { calm = p .pre .0; is = p .pre .1; depth = omega arith; of-kind = sym (ap (λ (z : Frame). z .kind) (c .before .before .before .before .read .ensures)) }, c .before .before .if2 .taken, p .pre .2)
 
 allows-requires : tie.Need-allows-requires
 allows-requires c κs = search needs
 
 ret-paid-requires : tie.Need-ret-paid-requires
-ret-paid-requires c κs = let p = c .before .before .before .before .before .before .before .before .before .before .before .before in (record { calm = p .pre .0; is = p .pre .1; depth = omega arith; of-kind = refl }, omega arith, ltb-true _ _ (sym (c .before .before .before .allows .ensures) ∙ c .before .before .if3 .taken), p .pre .2)
-
-mul-index : tie.Need-mul-index
-mul-index c = search needs
-
-add-index : tie.Need-add-index
-add-index c = search needs
-
-mul-index-2 : tie.Need-mul-index-2
-mul-index-2 c = search needs
-
-slice-read-index : tie.Need-slice-read-index
-slice-read-index c = search needs
-
-index-requires : tie.Need-index-requires
-index-requires c κs = search needs
-
-mul-index-3 : tie.Need-mul-index-3
-mul-index-3 c = search needs
-
-add-index-2 : tie.Need-add-index-2
-add-index-2 c = search needs
-
-mul-index-4 : tie.Need-mul-index-4
-mul-index-4 c = search needs
-
-slice-read-index-2 : tie.Need-slice-read-index-2
-slice-read-index-2 c = search needs
-
-index-requires-2 : tie.Need-index-requires-2
-index-requires-2 c κs = search needs
+ret-paid-requires c κs = let p = c .before .before .before .before .before .before .before .before .before .before .before .before .before in (record { calm = p .pre .0; is = p .pre .1; depth = omega arith; of-kind = sym (ap (λ (z : Frame). z .kind) (c .before .before .before .before .before .before .read .ensures)) }, omega arith, ltb-true _ _ (sym (c .before .before .before .allows .ensures) ∙ c .before .before .if3 .taken), p .pre .2)
 
 halt-requires : tie.Need-halt-requires
 halt-requires c κs = search needs
@@ -89,30 +57,22 @@ same-length-4 c = search needs
 returns-3 : tie.Need-returns-3
 returns-3 c = search needs
 
+same-length-5 : tie.Need-same-length-5
+same-length-5 c = search needs
+
 returns-4 : tie.Need-returns-4
-returns-4 c = let p = c .before .before .before .before .before .before .before .before .before .before .before .before .before .before .before .before in move-strides (p .args .words .now) (p .args .ws .now) (p .args .locals .now) (p .args .plan) (p .args .g) (p .pre .0) _ _ _ (stepped-dry (p .args .words .now) (p .args .ws .now) (p .args .locals .now) (p .args .plan) (full (p .args .g)) (p .args .v) _ _ (returned (p .args .words .now) (p .args .ws .now) (p .args .locals .now) (p .args .plan) (p .args .g) (p .args .v) _ _ (record { calm = p .pre .0; is = p .pre .1; depth = omega arith; of-kind = refl })) (ltb-false _ _ (sym (c .before .before .before .before .before .before .before .allows .ensures) ∙ c .before .before .before .before .before .before .if3 .left)) (omega arith) _ _ (c .before .before .before .before .index .ensures) (c .before .before .index2 .ensures) _ (c .before .halt .ensures)) _ (c .settle .ensures)
+returns-4 c = let p = c .before .before .before .before .before .before .before .before .before .before .before .before .before in move-strides (p .args .words .now) (p .args .ws .now) (p .args .locals .now) (p .args .plan) (p .args .g) (p .pre .0) _ _ _ (stepped-dry (p .args .words .now) (p .args .ws .now) (p .args .locals .now) (p .args .plan) (full (p .args .g)) (p .args .v) _ _ (returned (p .args .words .now) (p .args .ws .now) (p .args .locals .now) (p .args .plan) (p .args .g) (p .args .v) _ _ (record { calm = p .pre .0; is = p .pre .1; depth = omega arith; of-kind = sym (ap (λ (z : Frame). z .kind) (c .before .before .before .before .before .before .read .ensures)) })) (ltb-false _ _ (sym (c .before .before .before .allows .ensures) ∙ c .before .before .if3 .left)) (omega arith) _ (c .before .before .before .before .before .before .read .ensures) _ (c .before .halt .ensures)) _ (c .settle .ensures)
 
 pub ret-spec : {M : Type 1} → statement M
 ret-spec =
     tie.close
     (tie.spec
     sub-top
-    mul-kind
-    mul-kind-2
-    slice-read-kind
+    mul-read
+    read-requires
     arrive-requires
     allows-requires
     ret-paid-requires
-    mul-index
-    add-index
-    mul-index-2
-    slice-read-index
-    index-requires
-    mul-index-3
-    add-index-2
-    mul-index-4
-    slice-read-index-2
-    index-requires-2
     halt-requires
     settle-requires
     returns
@@ -122,4 +82,5 @@ ret-spec =
     same-length-3
     same-length-4
     returns-3
+    same-length-5
     returns-4)
