@@ -27,7 +27,7 @@ module _ (w ws starts : List ℕ) (b : ℕ) (table : WellFormed w) (s : Stands w
   pub frame-start : r .function < length starts
   frame-start = rw (is, e) (start-inside w table s)
 
-  start-here : getD starts (r .function) 0 ≡ startOf w (frameFunction ws b)
+  pub start-here : getD starts (r .function) 0 ≡ startOf w (frameFunction ws b)
   start-here = rw is (start-is w table starts e s)
 
   pub frame-inside : getD starts (r .function) 0 + 4 * r .node + 4 ≤ length w

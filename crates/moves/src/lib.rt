@@ -207,7 +207,8 @@ pub fn open(
             let b = frames::WORDS * depth;
             frames::push(ws, b, kind, f, p, k, locals, Span::none());
             let up = rise(s);
-            Step::Go(tick(up, Control::Eval(f, p + 1, k), depth + 1, oldest))
+            let first = p + 1;
+            Step::Go(tick(up, Control::Eval(f, first, k), depth + 1, oldest))
         } else {
             halt(21, f, p)
         }
@@ -230,9 +231,10 @@ fn fork(ws: &mut [u64], locals: &[u64], s: Registers, seat: Seat) -> Step
         let b = frames::WORDS * depth;
         frames::push(ws, b, PROMOTED_LEFT, f, p, k, locals, span);
         let up = rise(s);
+        let first = p + 1;
         Step::Go(restart(
             up,
-            Control::Eval(f, p + 1, k),
+            Control::Eval(f, first, k),
             depth + 1,
             s.oldest,
             Span::none(),

@@ -14,7 +14,8 @@ use Rattle.frames.specs.declared.Frame.{Frame}
 use Rattle.frames.specs.Frames.{localsWord, frameFunction, frameNode, frameCount, frameAt, frameLocals}
 use Rattle.moves.specs.declared.Control.the-variants.{Ret}
 use Rattle.moves.specs.Ready.{Stands, Operand}
-use Rattle.moves.proofs.Nodes.{start-inside, start-is, inside, arithmetic-in}
+use Rattle.moves.proofs.Nodes.{arithmetic-in}
+use Rattle.moves.proofs.Frames as frames
 use Rattle.compact.specs.declared.Compact.{Compact}
 use Rattle.compact.specs.Compact.{laterOf, Roomy}
 use Rattle.operands.specs.Operands.{numbered, costAt, framesOf, simpleAt, SimpleAt, CostAt}
@@ -31,13 +32,13 @@ module _ {w ws starts : List ℕ} (top : ℕ) (op : Operand w ws (32 * top)) (e 
   P = frameNode ws (32 * top)
 
   pub frame-start : r .function < length starts
-  frame-start = rw (is, e) (start-inside w (op .table) (op .stands))
-
-  start-here : getD starts (r .function) 0 ≡ startOf w F
-  start-here = rw is (start-is w (op .table) starts e (op .stands))
+  frame-start = frames.frame-start w ws starts (32 * top) (op .table) (op .stands) e r is
 
   pub frame-inside : getD starts (r .function) 0 + 4 * r .node + 4 ≤ length w
-  frame-inside = rw (start-here, is) (inside w (op .table) (op .stands) .0)
+  frame-inside = frames.frame-inside w ws starts (32 * top) (op .table) (op .stands) e r is
+
+  start-here : getD starts (r .function) 0 ≡ startOf w F
+  start-here = frames.start-here w ws starts (32 * top) (op .table) (op .stands) e r is
 
   node-here : getD starts (r .function) 0 + 4 * r .node ≡ startOf w F + 4 * P
   node-here = rw (start-here, is)

@@ -16,8 +16,8 @@ push-requires c κs = search needs
 rise-requires : tie.Need-rise-requires
 rise-requires c κs = search needs
 
-add-t20 : tie.Need-add-t20
-add-t20 c = search needs
+add-first : tie.Need-add-first
+add-first c = search needs
 
 add-restart : tie.Need-add-restart
 add-restart c = search needs
@@ -50,7 +50,7 @@ fork-spec =
     mul-b
     push-requires
     rise-requires
-    add-t20
+    add-first
     add-restart
     none-requires
     add-restart-2

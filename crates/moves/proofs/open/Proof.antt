@@ -26,8 +26,8 @@ push-requires c κs = search needs
 rise-requires : tie.Need-rise-requires
 rise-requires c κs = search needs
 
-add-t26 : tie.Need-add-t26
-add-t26 c = search needs
+add-first : tie.Need-add-first
+add-first c = search needs
 
 add-tick : tie.Need-add-tick
 add-tick c = search needs
@@ -64,7 +64,7 @@ open-spec =
     none-requires
     push-requires
     rise-requires
-    add-t26
+    add-first
     add-tick
     tick-requires
     halt-requires
