@@ -5,23 +5,50 @@ mod decode;
 mod fast;
 mod fused;
 mod jobs;
+#[path = "../tests/second/library.rs"]
+mod library;
+mod measure;
 mod sides;
 
+use fast::Interpreter;
 use jobs::Job;
-use sides::{Answer, Sides, FAST, FUSED, MACHINES, PROVED, SIDES, WORDS};
+use library::mondupil_run;
+use measure::{geometric_mean, lowest, median};
+use sides::{proved, Answer, Sides, MACHINES, WORDS};
 
-fn median(values: impl Iterator<Item = f64>) -> f64 {
-    let mut sorted: Vec<f64> = values.collect();
-    sorted.sort_by(f64::total_cmp);
-    sorted[sorted.len() / 2]
+const FAST: usize = 0;
+const PROVED: usize = 1;
+const FUSED: usize = 2;
+
+/// The implementations, with what they run in.
+struct Implementations {
+    workspace: Vec<u64>,
+    fast: Interpreter<false>,
+    fused: Interpreter<true>,
 }
 
-fn geometric_mean(values: &[f64]) -> f64 {
-    (values.iter().map(|x| x.ln()).sum::<f64>() / values.len() as f64).exp()
+impl Sides for Implementations {
+    /// The proved one is next to both others.
+    const NAMES: &'static [&'static str] = &["fast", "proved", "fused"];
+
+    fn run(&mut self, side: usize, machine: u32, j: &Job, fuel: u64, words: usize) -> Answer {
+        match side {
+            FAST => self.fast.run(machine, &j.table, &j.args, fuel, j.period, j.tau, words),
+            PROVED => proved(mondupil_run, &mut self.workspace, machine, j, fuel, words),
+            _ => self.fused.run(machine, &j.table, &j.args, fuel, j.period, j.tau, words),
+        }
+    }
 }
 
-fn lowest(values: &[f64]) -> f64 {
-    values.iter().fold(f64::MAX, |a, &b| a.min(b))
+impl Implementations {
+    fn new() -> Self {
+        Implementations { workspace: vec![0; WORDS], fast: Interpreter::new(), fused: Interpreter::new() }
+    }
+
+    /// The time of one run of each, one after the other, from so many calls.
+    fn times(&mut self, machine: u32, j: &Job, fuel: u64, calls: u32) -> [f64; 3] {
+        [FAST, PROVED, FUSED].map(|side| self.time(side, machine, j, fuel, calls))
+    }
 }
 
 fn highest(values: &[f64]) -> f64 {
@@ -36,9 +63,9 @@ struct Measured {
 }
 
 impl Measured {
-    fn new(sides: &mut Sides, job: Job, repeats: u32) -> Self {
+    fn new(sides: &mut Implementations, job: Job, repeats: u32) -> Self {
         let answers = sides.values(&job);
-        let taken = (0..repeats).map(|_| [0, 1, 2].map(|machine| sides.time(machine, &job, job.fuel, 1))).collect();
+        let taken = (0..repeats).map(|_| [0, 1, 2].map(|machine| sides.times(machine, &job, job.fuel, 1))).collect();
         Measured { job, answers, taken }
     }
 
@@ -98,7 +125,7 @@ fn rates(title: &str, group: &[Measured]) {
     for side in [FAST, FUSED] {
         for (what, of) in [("geometric mean", geometric_mean as fn(&[f64]) -> f64), ("slowest", lowest)] {
             let shown = [&ALL[..], &[0], &[1], &[2]].map(|machines| format!("{:.2}", of(&ratios(group, side, machines))));
-            println!("| proved / {}, {what} | {} |", SIDES[side], shown.join(" | "));
+            println!("| proved / {}, {what} | {} |", Implementations::NAMES[side], shown.join(" | "));
         }
     }
 }
@@ -139,13 +166,13 @@ struct Contrast<'j> {
 }
 
 /// Time for each transition of the second against the first; the highest of the proved machines.
-fn contrast(sides: &mut Sides, c: &Contrast, repeats: u32) -> f64 {
+fn contrast(sides: &mut Implementations, c: &Contrast, repeats: u32) -> f64 {
     let found = [0, 1, 2].map(|machine| {
         let made = [0, 1].map(|i| sides.agree(machine, c.jobs[i], c.fuels[i], WORDS)[4] as f64);
-        let taken: Vec<[[f64; 3]; 2]> = (0..repeats).map(|_| [0, 1].map(|i| sides.time(machine, c.jobs[i], c.fuels[i], c.calls[i]))).collect();
+        let taken: Vec<[[f64; 3]; 2]> = (0..repeats).map(|_| [0, 1].map(|i| sides.times(machine, c.jobs[i], c.fuels[i], c.calls[i]))).collect();
         [FAST, PROVED, FUSED].map(|side| median(taken.iter().map(|t| (t[1][side] / made[1]) / (t[0][side] / made[0]))))
     });
-    for (side, name) in SIDES.iter().enumerate() {
+    for (side, name) in Implementations::NAMES.iter().enumerate() {
         let shown = found.map(|of_machine| format!("{:.3}", of_machine[side]));
         println!("| {} | {name} | {} |", c.name, shown.join(" | "));
     }
@@ -153,7 +180,7 @@ fn contrast(sides: &mut Sides, c: &Contrast, repeats: u32) -> f64 {
 }
 
 /// Depth and length of a run: the highest figure of the proved machines for each.
-fn depth_and_length(sides: &mut Sides, quick: bool, repeats: u32) -> [f64; 2] {
+fn depth_and_length(sides: &mut Implementations, quick: bool, repeats: u32) -> [f64; 2] {
     println!("\n### Depth and length\n\n| second against first | | sequential | parallel | heartbeat |\n|---|---|--:|--:|--:|");
     let [shallow, deep] = [10, 4_000].map(|depth| jobs::deep_plain(depth, 800_000));
     let depth = Contrast { name: "depth 10, depth 4,000", jobs: [&shallow, &deep], fuels: [shallow.fuel, deep.fuel], calls: [1, 1] };
@@ -163,11 +190,11 @@ fn depth_and_length(sides: &mut Sides, quick: bool, repeats: u32) -> [f64; 2] {
 }
 
 /// The largest table, refused by its fuel 0 after it was read.
-fn acceptance(sides: &mut Sides) {
+fn acceptance(sides: &mut Implementations) {
     let j = Job { name: "largest table", table: jobs::largest_table(), args: vec![], fuel: 0, period: 1, tau: 1 };
     assert_eq!((j.table[0], j.table.len()), (64, 1 + 2 * 64 + 4 * 4_000));
     assert_eq!(sides.agree(0, &j, 0, WORDS), [2, 8, 0, 0, 0, 0, 0, 0]);
-    let taken: Vec<[f64; 3]> = (0..100).map(|_| sides.time(0, &j, 0, 200)).collect();
+    let taken: Vec<[f64; 3]> = (0..100).map(|_| sides.times(0, &j, 0, 200)).collect();
     let [fast, proved, _] = [FAST, PROVED, FUSED].map(|side| taken.iter().map(|t| t[side]).fold(f64::MAX, f64::min) * 1e6);
     println!("\nTo accept the largest table (64 functions, 4,000 nodes), best of {}: proved {proved:.1} µs, Rust {fast:.1} µs (both interpreters have the same reader); in speed proved / Rust {:.2}.", taken.len(), fast / proved);
 }
@@ -192,7 +219,7 @@ fn wanted(rows: &[(&str, f64, Wanted)]) {
 fn main() {
     let quick = std::env::args().any(|word| word == "quick");
     let repeats = if quick { 3 } else { 15 };
-    let mut sides = Sides::new();
+    let mut sides = Implementations::new();
     sides.agree_on_random(20_000);
     sides.agree_on_periods();
     let [six, further] = [jobs::six(), jobs::further()].map(|group| {
