@@ -9,7 +9,7 @@ use lib.Dec.{ltb, leb}
 use borrow.Author.Tests.{lt-ltb, le-ltb, lt-leb, ltb-true, ltb-false}
 use Rattle.moves.specs.declared.Control.{Control}
 use Rattle.moves.specs.declared.Registers.{Registers}
-use Rattle.moves.specs.declared.Seat.{Seat}
+use Rattle.frames.specs.declared.Seat.{Seat}
 use Rattle.moves.specs.declared.Plan.{Plan}
 use Rattle.moves.specs.declared.Step.{Step}
 use Rattle.moves.specs.declared.Step.the-variants.{Go}

@@ -1,9 +1,9 @@
 // The registers of a run by one counter, and single steps by them.
 
+use frames::Seat;
 use moves::Control;
 use moves::Plan;
 use moves::Registers;
-use moves::Seat;
 use moves::Step;
 use moves::Stopped;
 use schedule::Credits;

@@ -5,8 +5,7 @@ use Prim.Native.Nat.{ℕ, _+_}
 use mathlib.Core.List.{List}
 use lib.ListN.{getD, take, drop, set}
 use lib.Seq.{paste}
-use Rattle.schedule.specs.declared.Span.{Span}
-use Rattle.frames.specs.declared.Frame.{Frame}
+use Rattle.frames.specs.declared.Seat.{Seat}
 
 -- THE LAYOUT of a frame, which is 32 words: where each of its parts stands. Word 7 and the last five are not used.
 abbrev pub functionWord : ℕ → ℕ
@@ -56,16 +55,8 @@ frameBefore ws b = getD ws (beforeWord b) 0
 abbrev pub frameLeft : List ℕ → ℕ → ℕ
 frameLeft ws b = getD ws (leftWord b) 0
 
-abbrev pub frameAt : List ℕ → ℕ → Frame
-frameAt ws b = record {
-  kind = frameKind ws b;
-  function = frameFunction ws b;
-  node = frameNode ws b;
-  count = frameCount ws b;
-  value = frameValue ws b;
-  before = record { 0 = frameBefore ws b };
-  left = record { 0 = frameLeft ws b };
-}
+abbrev pub seatAt : List ℕ → ℕ → Seat
+seatAt ws b = record { function = frameFunction ws b; node = frameNode ws b; count = frameCount ws b }
 
 -- its locals, and its arguments
 abbrev pub frameLocals : List ℕ → ℕ → List ℕ

@@ -20,7 +20,7 @@ ghost use mathlib.Core.Path.{_≡_};
 ghost use Prim.Native.Nat.{_+_, _*_, _<_, _≤_};
 ghost use lib.ListN.{length, drop, replicate};
 ghost use lib.Seq.{paste};
-ghost use Rattle.frames.specs.Frames.{localsWord, argumentsWord, frameAt, saved, pushed, turned, collected, marked, loaded, appended};
+ghost use Rattle.frames.specs.Frames.{localsWord, argumentsWord, frameKind, frameValue, frameBefore, frameLeft, seatAt, saved, pushed, turned, collected, marked, loaded, appended};
 
 // The words of a frame, and where its parts stand in it.
 pub const WORDS: usize = 32;
@@ -41,16 +41,11 @@ pub const LOCALS: usize = 8;
 
 const ARGUMENTS: usize = 24;
 
-// What a frame holds beside the locals and the arguments.
-pub struct Frame {
-    pub kind: u64,
+// Where a frame's node stands, with how many locals are bound there.
+pub struct Seat {
     pub function: usize,
     pub node: usize,
-    // How many locals it saves.
     pub count: usize,
-    pub value: u64,
-    pub before: Span,
-    pub left: Span,
 }
 
 // Copies n words of `src`, from word `from` on, over those of `dst` from word `at` on, in a loop: compiled to a call of memcpy.
@@ -97,43 +92,59 @@ pub fn save_locals(ws: &mut [u64], b: usize, locals: &[u64], k: usize)
     copy(ws, b + LOCALS, locals, 0, k);
 }
 
-// Writes a new frame: it saves the first k locals and has no value yet.
-pub fn push(
-    ws: &mut [u64],
-    b: usize,
-    kind: u64,
-    function: usize,
-    node: usize,
-    k: usize,
-    locals: &[u64],
-    before: Span,
-)
-    requires { ⌜ (b + 32 ≤ length (now ws)) × (k ≤ 16) × (length (now locals) ≡ 16) ⌝ }
-    ensures { λ _. ⌜ now (ws .exit) ≡ pushed (now (ws .entry)) b kind function node k (now (locals .entry)) (before .0) ⌝ }
+// Writes a new frame: it saves the locals that are bound and has no value yet.
+pub fn push(ws: &mut [u64], b: usize, kind: u64, seat: Seat, locals: &[u64], before: Span)
+    requires { ⌜ (b + 32 ≤ length (now ws)) × (seat .count ≤ 16) × (length (now locals) ≡ 16) ⌝ }
+    ensures { λ _. ⌜ now (ws .exit) ≡ pushed (now (ws .entry)) b kind (seat .function) (seat .node) (seat .count) (now (locals .entry)) (before .0) ⌝ }
 {
+    let k = seat.count;
     ws[b] = kind;
-    ws[b + FUNCTION] = function as u64;
-    ws[b + NODE] = node as u64;
+    ws[b + FUNCTION] = seat.function as u64;
+    ws[b + NODE] = seat.node as u64;
     ws[b + COUNT] = k as u64;
     ws[b + VALUE] = 0;
     ws[b + BEFORE] = before.0;
     save_locals(ws, b, locals, k);
 }
 
-// Reads a frame.
-pub fn read(ws: &[u64], b: usize) -> Frame
+// What a frame holds, by its parts.
+pub fn kind_of(ws: &[u64], b: usize) -> u64
     requires { ⌜ b + 32 ≤ length (now ws) ⌝ }
-    ensures { λ r. ⌜ r ≡ frameAt (now (ws .entry)) b ⌝ }
+    ensures { λ r. ⌜ r ≡ frameKind (now (ws .entry)) b ⌝ }
 {
-    Frame {
-        kind: ws[b],
+    ws[b]
+}
+
+pub fn seat_of(ws: &[u64], b: usize) -> Seat
+    requires { ⌜ b + 32 ≤ length (now ws) ⌝ }
+    ensures { λ r. ⌜ r ≡ seatAt (now (ws .entry)) b ⌝ }
+{
+    Seat {
         function: ws[b + FUNCTION] as usize,
         node: ws[b + NODE] as usize,
         count: ws[b + COUNT] as usize,
-        value: ws[b + VALUE],
-        before: Span(ws[b + BEFORE]),
-        left: Span(ws[b + LEFT]),
     }
+}
+
+pub fn value_of(ws: &[u64], b: usize) -> u64
+    requires { ⌜ b + 32 ≤ length (now ws) ⌝ }
+    ensures { λ r. ⌜ r ≡ frameValue (now (ws .entry)) b ⌝ }
+{
+    ws[b + VALUE]
+}
+
+pub fn before_of(ws: &[u64], b: usize) -> Span
+    requires { ⌜ b + 32 ≤ length (now ws) ⌝ }
+    ensures { λ r. ⌜ r .0 ≡ frameBefore (now (ws .entry)) b ⌝ }
+{
+    Span(ws[b + BEFORE])
+}
+
+pub fn left_of(ws: &[u64], b: usize) -> Span
+    requires { ⌜ b + 32 ≤ length (now ws) ⌝ }
+    ensures { λ r. ⌜ r .0 ≡ frameLeft (now (ws .entry)) b ⌝ }
+{
+    Span(ws[b + LEFT])
 }
 
 // Turns a frame to its second child: another kind, the first child's value and, at a fork, the span of the left branch.

@@ -13,17 +13,16 @@ use Rattle.table.specs.Nodes.{nodeAt}
 use Rattle.arithmetic.specs.Operate.{computed}
 use Rattle.table.specs.Read.{startsOf}
 use Rattle.table.specs.WellFormed.{WellFormed}
-use Rattle.frames.specs.declared.Frame.{Frame}
-use Rattle.frames.specs.Frames.{localsWord, frameFunction, frameNode, frameCount, frameValue, frameAt, frameLocals, loaded, appended}
+use Rattle.frames.specs.Frames.{localsWord, frameFunction, frameNode, frameCount, frameValue, seatAt, frameLocals, loaded, appended}
 use Rattle.frames.proofs.Writes.{Loaded, is-loaded, is-appended}
 use Rattle.moves.specs.declared.Control.the-variants.{Eval}
-use Rattle.moves.specs.declared.Seat.{Seat}
+use Rattle.frames.specs.declared.Seat.{Seat}
 use Rattle.moves.specs.Ready.{Stands, Sitting, localsAt, Child, Concluded, stepOf, operationOf, operation}
 use Rattle.moves.proofs.Nodes.{start-inside, start-is, inside, operation-in}
 
--- a frame that was read, with its node through the array of starts
+-- the seat of a frame that was read, with its node through the array of starts
 module _ (w ws starts : List ℕ) (b : ℕ) (table : WellFormed w) (s : Stands w (frameFunction ws b) (frameNode ws b) (frameCount ws b)) (e : starts ≡ startsOf w)
-    (r : Frame) (is : r ≡ frameAt ws b) where
+    (r : Seat) (is : r ≡ seatAt ws b) where
   pub frame-start : r .function < length starts
   frame-start = rw (is, e) (start-inside w table s)
 
@@ -41,9 +40,9 @@ module _ (w ws starts : List ℕ) (b : ℕ) (table : WellFormed w) (s : Stands w
     pub arithmetic-node : (o : Operation) × (x ≡ Arithmetic o (bAt w (startOf w (frameFunction ws b)) (frameNode ws b)))
     arithmetic-node = let a = operation-in w table s t in (a .0, sym node-is ∙ a .1)
 
-    pub operation-is : (v : ℕ) (o : Operation) (d : ℕ) → x ≡ Arithmetic o d → operation w ws b v ≡ stepOf (r .function) (r .node) (computed o (r .value) v)
+    pub operation-is : (v : ℕ) (o : Operation) (d : ℕ) → x ≡ Arithmetic o d → (y : ℕ) → y ≡ frameValue ws b → operation w ws b v ≡ stepOf (r .function) (r .node) (computed o y v)
     unfolding operationOf
-    operation-is v o d e = rw (node-is ∙ e, is)
+    operation-is v o d e y is-y = rw (node-is ∙ e, is, is-y)
 
   module _ (ls ls′ : List ℕ) (l : ls′ ≡ loaded ls ws (localsWord b) (r .count)) where
     pub second-child : (q : ℕ) → q ≡ bAt w (getD starts (r .function) 0) (r .node) → Child w ws ls b false ls′ (record { function = r .function; node = q; count = r .count })

@@ -16,8 +16,7 @@ use Rattle.schedule.specs.Bounds.{total, kept-spans}
 use Rattle.table.specs.Words.{functions, arityAt, startOf, tagAt, aAt, bAt}
 use Rattle.table.specs.Nodes.{nodeAt}
 use Rattle.table.specs.Read.{startsOf}
-use Rattle.frames.specs.declared.Frame.{Frame as FrameRead}
-use Rattle.frames.specs.Frames.{frameAt, localsWord, argumentsWord, frameKind, frameFunction, frameNode, frameCount, frameValue, frameBefore, frameLeft, frameLocals, frameArguments, turned, collected, loaded, appended}
+use Rattle.frames.specs.Frames.{seatAt, localsWord, argumentsWord, frameKind, frameFunction, frameNode, frameCount, frameValue, frameBefore, frameLeft, frameLocals, frameArguments, turned, collected, loaded, appended}
 use Rattle.frames.proofs.Writes.{Turned, Loaded, is-turned, is-collected, is-loaded, is-appended}
 use Rattle.table.specs.declared.Operation.{Operation}
 use Rattle.table.specs.declared.Node.the-variants.{Arithmetic}
@@ -29,7 +28,7 @@ use Rattle.moves.specs.declared.Control.{Control}
 use Rattle.moves.specs.declared.Control.the-variants.{Eval, Ret}
 use Rattle.moves.specs.declared.Registers.{Registers}
 use Rattle.moves.specs.declared.Plan.{Plan}
-use Rattle.moves.specs.declared.Seat.{Seat}
+use Rattle.frames.specs.declared.Seat.{Seat}
 use Rattle.moves.specs.declared.Step.{Step}
 use Rattle.moves.specs.declared.Step.the-variants.{Go, Value}
 use Rattle.moves.specs.Layout.{codeAt, slots, slotOf, slotAt, stackOf, controlOf, runCountsOf, stateOf, resultOf, ticked, restarted, oldestWithout, halted}
@@ -320,7 +319,7 @@ module _ (w ws ls : List ℕ) (plan : Plan) (s : Registers) (v t : ℕ) where
     })
 
   -- the function that a call's frame calls, read through the array of starts
-  module _ (q : Returns w ws ls plan s v t 4) (starts : List ℕ) (e : starts ≡ startsOf w) (r : FrameRead) (is : r ≡ frameAt ws (32 * t)) (g : ℕ) (is-g : g ≡ aAt w (getD starts (r .function) 0) (r .node)) where
+  module _ (q : Returns w ws ls plan s v t 4) (starts : List ℕ) (e : starts ≡ startsOf w) (r : Seat) (is : r ≡ seatAt ws (32 * t)) (g : ℕ) (is-g : g ≡ aAt w (getD starts (r .function) 0) (r .node)) where
     pub called-here : g ≡ calledAt w ws (32 * t)
     called-here = is-g ∙ rw (is, start-is w (q .ready .kept .table) starts e (top w ws ls plan s v t 4 q .stands))
 
@@ -452,7 +451,7 @@ module _ (w ws ls : List ℕ) (plan : Plan) (s : Registers) (v t kind : ℕ) (q 
   by-kind (suc (suc (suc (suc (suc (suc zero)))))) h x vs g l = rw (le-ltb _ _ dry)
   by-kind (suc (suc (suc (suc (suc (suc (suc k))))))) h x vs g l = absurd (omega arith)
 
-  pub stepped-dry : kind < 7 → (r : FrameRead) → r ≡ frameAt ws (32 * t) → (o : Step) → o ≡ halted 20 (r .function) (r .node) → Stepped w ws ls plan s ws ls o
+  pub stepped-dry : kind < 7 → (r : Seat) → r ≡ seatAt ws (32 * t) → (o : Step) → o ≡ halted 20 (r .function) (r .node) → Stepped w ws ls plan s ws ls o
   unfolding resultOf KeptBy
   stepped-dry h r is o e = rw (e, is) (record { same = returned w ws ls plan s v t kind q ∙ by-kind kind h _ _ _ _; kept = tt })
 

@@ -1,6 +1,7 @@
 // One move of the flat machine under a schedule, with its frames in a lent workspace.
 
 use arithmetic::Computed;
+use frames::Seat;
 use schedule::Credits;
 use schedule::Fuel;
 use schedule::Span;
@@ -12,7 +13,7 @@ ghost use lib.ListN.{length};
 ghost use lib.Dec.{ltb, leb};
 ghost use Rattle.table.specs.Words.{arityAt};
 ghost use Rattle.table.specs.Read.{startsOf};
-ghost use Rattle.frames.specs.Frames.{frameCount, frameValue};
+ghost use Rattle.frames.specs.Frames.{frameKind, frameCount, frameValue};
 ghost use Rattle.moves.specs.Layout.{ticked, restarted, risen, oldestWith, oldestWithout, halted};
 ghost use Rattle.moves.specs.Ready.{Returns, Paid, Stepped, Framed, transited, Opened, Forked, OpenedBoth, Sitting, Child, Operand, operation, Resumed, calledAt, Concluded, Found, Promoted};
 
@@ -80,13 +81,6 @@ pub enum Step {
     Go(Registers),
     Value(u64),
     Halt(Stopped),
-}
-
-// Where a frame's node stands.
-pub struct Seat {
-    pub function: usize,
-    pub node: usize,
-    pub count: usize,
 }
 
 fn higher(a: usize, b: usize) -> usize
@@ -205,7 +199,7 @@ pub fn open(
     if fuel.allows(s.transitions) {
         if depth < ws.len() / frames::WORDS {
             let b = frames::WORDS * depth;
-            frames::push(ws, b, kind, f, p, k, locals, Span::none());
+            frames::push(ws, b, kind, seat, locals, Span::none());
             let up = rise(s);
             let first = p + 1;
             Step::Go(tick(up, Control::Eval(f, first, k), depth + 1, oldest))
@@ -229,7 +223,7 @@ fn fork(ws: &mut [u64], locals: &[u64], s: Registers, seat: Seat) -> Step
     let span = s.span;
     if depth < ws.len() / frames::WORDS {
         let b = frames::WORDS * depth;
-        frames::push(ws, b, PROMOTED_LEFT, f, p, k, locals, span);
+        frames::push(ws, b, PROMOTED_LEFT, seat, locals, span);
         let up = rise(s);
         let first = p + 1;
         Step::Go(restart(
@@ -284,10 +278,10 @@ fn child(
     requires { ⌜ (Sitting (now words) (now ws) (now locals) b) × (now starts ≡ startsOf (now words)) ⌝ }
     ensures { λ r. ⌜ Child (now (words .entry)) (now (ws .entry)) (now (locals .entry)) b last (now (locals .exit)) r ⌝ }
 {
-    let frame = frames::read(ws, b);
-    let function = frame.function;
-    let p = frame.node;
-    let count = frame.count;
+    let seat = frames::seat_of(ws, b);
+    let function = seat.function;
+    let p = seat.node;
+    let count = seat.count;
     frames::load_locals(locals, ws, b, count);
     let start = starts[function];
     let node = if last {
@@ -332,14 +326,14 @@ fn operated(words: &[u32], starts: &[usize], ws: &[u64], b: usize, v: u64) -> St
     requires { ⌜ (Operand (now words) (now ws) b) × (now starts ≡ startsOf (now words)) ⌝ }
     ensures { λ r. ⌜ r ≡ operation (now (words .entry)) (now (ws .entry)) b v ⌝ }
 {
-    let frame = frames::read(ws, b);
-    let function = frame.function;
-    let p = frame.node;
+    let seat = frames::seat_of(ws, b);
+    let function = seat.function;
+    let p = seat.node;
     let node = table::node_at(words, starts[function], p);
     let Node::Arithmetic(operation, _) = node else {
         return halt(4, function, p);
     };
-    match arithmetic::operate(operation, frame.value, v) {
+    match arithmetic::operate(operation, frames::value_of(ws, b), v) {
         Computed::Is(r) => Step::Value(r),
         Computed::Fails(number) => halt(number, function, p),
     }
@@ -483,10 +477,11 @@ pub fn ret_argument(
     requires { ⌜ (Returns (now words) (now ws) (now locals) plan s v top 4) × (Paid plan s) × (now starts ≡ startsOf (now words)) ⌝ }
     ensures { λ r. ⌜ Stepped (now (words .entry)) (now (ws .entry)) (now (locals .entry)) plan s (now (ws .exit)) (now (locals .exit)) r ⌝ }
 {
-    let frame = frames::read(ws, frames::WORDS * top);
-    let function = frame.function;
-    let n = frame.value as usize;
-    let g = table::called(words, starts[function], frame.node);
+    let b = frames::WORDS * top;
+    let seat = frames::seat_of(ws, b);
+    let function = seat.function;
+    let n = frames::value_of(ws, b) as usize;
+    let g = table::called(words, starts[function], seat.node);
     if n + 1 < table::arity(words, g) {
         next_argument(words, starts, ws, locals, plan, s, v, top, n)
     } else {
@@ -532,10 +527,10 @@ fn body(
     requires { ⌜ (Sitting (now words) (now ws) (now locals) b) × (now starts ≡ startsOf (now words)) × (frameCount (now ws) b + 2 ≤ 16) ⌝ }
     ensures { λ r. ⌜ Concluded (now (words .entry)) (now (ws .entry)) (now (locals .entry)) b v (now (locals .exit)) r ⌝ }
 {
-    let frame = frames::read(ws, b);
+    let left = frames::value_of(ws, b);
     let seat = child(words, starts, ws, locals, b, true);
     let count = seat.count;
-    frames::append(locals, count, frame.value);
+    frames::append(locals, count, left);
     frames::append(locals, count + 1, v);
     Control::Eval(seat.function, seat.node, count + 2)
 }
@@ -602,10 +597,10 @@ fn joined(
     ensures { λ r. ⌜ Stepped (now (words .entry)) (now (ws .entry)) (now (locals .entry)) plan s (now (ws .entry)) (now (locals .exit)) r ⌝ }
 {
     let b = frames::WORDS * top;
-    let frame = frames::read(ws, b);
-    let before = frame.before;
+    let before = frames::before_of(ws, b);
+    let left = frames::left_of(ws, b);
     let right = s.span;
-    let whole = before.joined(plan.tau, frame.left, right);
+    let whole = before.joined(plan.tau, left, right);
     let control = body(words, starts, ws, locals, b, v);
     Step::Go(restart(s, control, top, s.oldest, whole, s.forks))
 }
@@ -632,6 +627,14 @@ pub fn arrive(
     }
 }
 
+// The kind of frame d.
+pub fn kind_at(ws: &[u64], d: usize) -> u64
+    requires { ⌜ 32 * d + 32 ≤ length (now ws) ⌝ }
+    ensures { λ r. ⌜ r ≡ frameKind (now (ws .entry)) (32 * d) ⌝ }
+{
+    frames::kind_of(ws, frames::WORDS * d)
+}
+
 // The next plain fork from a place on, upward.
 fn search(ws: &[u64], from: usize, depth: usize) -> usize
     requires { ⌜ (32 * depth ≤ length (now ws)) × (from ≤ depth) × (depth ≤ 4096) ⌝ }
@@ -639,8 +642,7 @@ fn search(ws: &[u64], from: usize, depth: usize) -> usize
 {
     let mut i = from;
     while i < depth {
-        let frame = frames::read(ws, frames::WORDS * i);
-        if frame.kind == PLAIN_LEFT {
+        if kind_at(ws, i) == PLAIN_LEFT {
             return i;
         }
         i += 1;

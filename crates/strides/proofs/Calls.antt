@@ -20,7 +20,7 @@ use Rattle.frames.proofs.Writes.{is-appended}
 use Rattle.language.specs.Language.{language}
 use Rattle.moves.specs.declared.Control.the-variants.{Eval}
 use Rattle.moves.specs.declared.Plan.{Plan}
-use Rattle.moves.specs.declared.Seat.{Seat}
+use Rattle.frames.specs.declared.Seat.{Seat}
 use Rattle.moves.specs.Layout.{controlOf}
 use Rattle.moves.specs.Ready.{Stands, Controlled, Framed, transited, Opened}
 use Rattle.moves.proofs.Nodes.{called-in, argument-first, argument-later, enter}

@@ -17,7 +17,7 @@ use Rattle.frames.proofs.Writes.{is-appended}
 use Rattle.language.specs.Language.{language}
 use Rattle.moves.specs.declared.Control.{Control}
 use Rattle.moves.specs.declared.Control.the-variants.{Eval, Ret}
-use Rattle.moves.specs.declared.Seat.{Seat}
+use Rattle.frames.specs.declared.Seat.{Seat}
 use Rattle.moves.specs.Layout.{controlOf}
 use Rattle.moves.specs.Ready.{Stands, Controlled}
 use Rattle.moves.proofs.Nodes.{inside, arithmetic-in, operation-in, choose-in, let-in}

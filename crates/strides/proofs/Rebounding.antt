@@ -10,8 +10,8 @@ use Rattle.table.proofs.Views.{at-arithmetic}
 use Rattle.arithmetic.specs.declared.Computed.{Computed}
 use Rattle.arithmetic.specs.declared.Computed.the-variants.{Is}
 use Rattle.arithmetic.specs.Operate.{computed}
-use Rattle.frames.specs.declared.Frame.{Frame}
-use Rattle.frames.specs.Frames.{localsWord, frameFunction, frameNode, frameCount, frameAt, frameLocals}
+use Rattle.frames.specs.declared.Seat.{Seat}
+use Rattle.frames.specs.Frames.{localsWord, frameFunction, frameNode, frameCount, seatAt, frameLocals}
 use Rattle.moves.specs.declared.Control.the-variants.{Ret}
 use Rattle.moves.specs.Ready.{Stands, Operand}
 use Rattle.moves.proofs.Nodes.{arithmetic-in}
@@ -23,8 +23,8 @@ use Rattle.strides.specs.Strides.{Rebound}
 use Rattle.operands.proofs.Leading.{right-through}
 use Rattle.operands.proofs.Operands.{cost-few, frames-few, two-node, cost-fits, simple-fits, simple-leads}
 
--- The frame `top` was read as r; it is of the function F and the node P. The function's body starts at word `getD starts (r .function) 0`.
-module _ {w ws starts : List ℕ} (top : ℕ) (op : Operand w ws (32 * top)) (e : starts ≡ startsOf w) {r : Frame} (is : r ≡ frameAt ws (32 * top)) where
+-- The seat of the frame `top` was read as r; it is of the function F and the node P. The function's body starts at word `getD starts (r .function) 0`.
+module _ {w ws starts : List ℕ} (top : ℕ) (op : Operand w ws (32 * top)) (e : starts ≡ startsOf w) {r : Seat} (is : r ≡ seatAt ws (32 * top)) where
   abbrev F : ℕ
   F = frameFunction ws (32 * top)
 

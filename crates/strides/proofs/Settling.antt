@@ -15,7 +15,7 @@ use Rattle.table.specs.Words.{startOf, tagAt, aAt, bAt, cAt}
 use Rattle.table.specs.Nodes.{nodeOf, nodeAt}
 use Rattle.moves.specs.declared.Control.the-variants.{Ret}
 use Rattle.moves.specs.declared.Registers.{Registers}
-use Rattle.moves.specs.declared.Seat.{Seat}
+use Rattle.frames.specs.declared.Seat.{Seat}
 use Rattle.moves.specs.declared.Plan.{Plan}
 use Rattle.moves.specs.declared.Step.{Step}
 use Rattle.moves.specs.declared.Step.the-variants.{Go, Value, Halt}

@@ -8,9 +8,9 @@
 use arithmetic::Computed;
 use compact::Compact;
 use compact::Progress;
+use frames::Seat;
 use moves::Control;
 use moves::Plan;
-use moves::Seat;
 use moves::Step;
 use schedule::Span;
 ghost use mathlib.Core.Path.{_≡_};
@@ -83,16 +83,7 @@ fn half(
         let f = seat.function;
         let count = seat.count;
         let b = frames::WORDS * depth;
-        frames::push(
-            ws,
-            b,
-            moves::RIGHT_OPERAND,
-            f,
-            seat.node,
-            count,
-            locals,
-            Span::none(),
-        );
+        frames::push(ws, b, moves::RIGHT_OPERAND, seat, locals, Span::none());
         frames::turn(ws, b, moves::RIGHT_OPERAND, x, Span::none());
         let control = Control::Eval(f, operands::wide(words[at + 2]), count);
         Progress::Go(compact::later(g, control, depth + 1, k + 2, h))
@@ -546,10 +537,10 @@ fn rebound(words: &[u32], starts: &[usize], ws: &[u64], g: Compact, v: u64, top:
     ensures { λ r. ⌜ Rebounds (now (words .entry)) (now (ws .entry)) g v top r ⌝ }
 {
     let b = frames::WORDS * top;
-    let frame = frames::read(ws, b);
-    let f = frame.function;
+    let seat = frames::seat_of(ws, b);
+    let f = seat.function;
     let start = starts[f];
-    let at = start + 4 * frame.node;
+    let at = start + 4 * seat.node;
     let right = start + 4 * operands::wide(words[at + 2]);
     let k = operands::cost(words, right);
     let h = operands::frames_of(k);
@@ -689,15 +680,15 @@ fn ret(
         Progress::Value(v)
     } else {
         let top = depth - 1;
-        let frame = frames::read(ws, frames::WORDS * top);
-        let kind = frame.kind;
+        let kind = moves::kind_at(ws, top);
         let fuel = plan.fuel;
         if moves::PROMOTED_LEFT <= kind {
             arrive(words, starts, ws, locals, plan, g, v, top, kind)
         } else if fuel.allows(g.transitions) {
             ret_paid(words, starts, ws, locals, plan, g, v, top, kind)
         } else {
-            let step = moves::halt(20, frame.function, frame.node);
+            let seat = frames::seat_of(ws, frames::WORDS * top);
+            let step = moves::halt(20, seat.function, seat.node);
             compact::settle(plan, step)
         }
     }

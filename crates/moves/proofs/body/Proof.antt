@@ -1,16 +1,15 @@
 -- `moves::body` meets its contract, by the laws of Frames.
 use native.Mathlib.Omega.{arith}
-use mathlib.Core.Path.{_≡_, ap, _∙_}
+use mathlib.Core.Path.{_≡_, ap}
 use Rattle.moves.proofs.Frames.{concluded}
 use Rattle.frames.specs.Frames.{frameCount}
-use Rattle.frames.specs.declared.Frame.{Frame}
-use Rattle.moves.specs.declared.Seat.{Seat}
+use Rattle.frames.specs.declared.Seat.{Seat}
 use borrow.Author.Needs.{needs}
 use Rattle.moves.proofs.body.Statement.{statement}
 use Rattle.moves.proofs.body.Tie as tie
 
-read-requires : tie.Need-read-requires
-read-requires c κs = search needs
+value-of-requires : tie.Need-value-of-requires
+value-of-requires c κs = search needs
 
 child-requires : tie.Need-child-requires
 child-requires c κs = search needs
@@ -31,13 +30,13 @@ same-length : tie.Need-same-length
 same-length c = search needs
 
 returns : tie.Need-returns
-returns c = concluded _ _ _ _ _ _ _ _ _ (c .before .before .before .before .before .before .before .before .before .before .child .ensures) (rw (c .before .before .before .before .before .before .before .before .before .before .before .before .read .ensures) at (c .before .before .before .before .before .before .append .ensures)) (c .before .before .append2 .ensures)
+returns c = concluded _ _ _ _ _ _ _ _ _ (c .before .before .before .before .before .before .before .before .before .before .child .ensures) (rw (c .before .before .before .before .before .before .before .before .before .before .before .before .value-of .ensures) at (c .before .before .before .before .before .before .append .ensures)) (c .before .before .append2 .ensures)
 
 pub body-spec : {M : Type 1} → statement M
 body-spec =
     tie.close
     (tie.spec
-    read-requires
+    value-of-requires
     child-requires
     append-requires
     add-append

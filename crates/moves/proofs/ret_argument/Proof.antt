@@ -1,40 +1,41 @@
 -- `moves::ret_argument` meets its contract, by the laws of Returning, Frames.
-use Prim.Native.Nat.{_*_}
 use native.Mathlib.Omega.{arith}
-use mathlib.Core.Path.{ap}
-use Rattle.frames.specs.declared.Frame.{Frame}
+use Prim.Native.Nat.{_*_}
 use Rattle.moves.proofs.Frames.{frame-start, frame-inside}
 use Rattle.moves.proofs.Returning.{top, few-here, called-here, called-inside}
 use borrow.Author.Needs.{needs}
 use Rattle.moves.proofs.ret_argument.Statement.{statement}
 use Rattle.moves.proofs.ret_argument.Tie as tie
 
-mul-read : tie.Need-mul-read
-mul-read c = search needs
+mul-b : tie.Need-mul-b
+mul-b c = search needs
 
-read-requires : tie.Need-read-requires
-read-requires c κs = search needs
+seat-of-requires : tie.Need-seat-of-requires
+seat-of-requires c κs = search needs
+
+value-of-requires : tie.Need-value-of-requires
+value-of-requires c κs = search needs
 
 mul-called : tie.Need-mul-called
-mul-called c = let entry = c .before .before .before .before .before .before in omega (arith, frame-start _ (entry .args .ws .now) _ (32 * entry .args .top) (entry .pre .0 .ready .kept .table) (top (entry .args .words .now) (entry .args .ws .now) (entry .args .locals .now) (entry .args .plan) (entry .args .s) (entry .args .v) (entry .args .top) 4 (entry .pre .0) .stands) (entry .pre .2) _ (c .read .ensures))
+mul-called c = let entry = c .before .before .before .before .before .before .before .before in omega (arith, frame-start _ (entry .args .ws .now) _ (32 * entry .args .top) (entry .pre .0 .ready .kept .table) (top (entry .args .words .now) (entry .args .ws .now) (entry .args .locals .now) (entry .args .plan) (entry .args .s) (entry .args .v) (entry .args .top) 4 (entry .pre .0) .stands) (entry .pre .2) _ (c .before .before .seat-of .ensures))
 
 shared-slice-read-called : tie.Need-shared-slice-read-called
-shared-slice-read-called c = let entry = c .before .before .before .before .before .before .before in frame-start _ (entry .args .ws .now) _ (32 * entry .args .top) (entry .pre .0 .ready .kept .table) (top (entry .args .words .now) (entry .args .ws .now) (entry .args .locals .now) (entry .args .plan) (entry .args .s) (entry .args .v) (entry .args .top) 4 (entry .pre .0) .stands) (entry .pre .2) _ (c .before .read .ensures)
+shared-slice-read-called c = let entry = c .before .before .before .before .before .before .before .before .before in frame-start _ (entry .args .ws .now) _ (32 * entry .args .top) (entry .pre .0 .ready .kept .table) (top (entry .args .words .now) (entry .args .ws .now) (entry .args .locals .now) (entry .args .plan) (entry .args .s) (entry .args .v) (entry .args .top) 4 (entry .pre .0) .stands) (entry .pre .2) _ (c .before .before .before .seat-of .ensures)
 
 called-requires : tie.Need-called-requires
-called-requires c κs = let entry = c .before .before .before .before .before .before .before in frame-inside _ (entry .args .ws .now) _ (32 * entry .args .top) (entry .pre .0 .ready .kept .table) (top (entry .args .words .now) (entry .args .ws .now) (entry .args .locals .now) (entry .args .plan) (entry .args .s) (entry .args .v) (entry .args .top) 4 (entry .pre .0) .stands) (entry .pre .2) _ (c .before .read .ensures)
+called-requires c κs = let entry = c .before .before .before .before .before .before .before .before .before in frame-inside _ (entry .args .ws .now) _ (32 * entry .args .top) (entry .pre .0 .ready .kept .table) (top (entry .args .words .now) (entry .args .ws .now) (entry .args .locals .now) (entry .args .plan) (entry .args .s) (entry .args .v) (entry .args .top) 4 (entry .pre .0) .stands) (entry .pre .2) _ (c .before .before .before .seat-of .ensures)
 
 add-if1 : tie.Need-add-if1
-add-if1 c = let entry = c .before .before .before .before .before .before .before .before in omega (arith, few-here (entry .args .words .now) (entry .args .ws .now) (entry .args .locals .now) (entry .args .plan) (entry .args .s) (entry .args .v) (entry .args .top) (entry .pre .0) _ (ap (λ (z : Frame). z .value) (c .before .before .read .ensures)))
+add-if1 c = let entry = c .before .before .before .before .before .before .before .before .before .before in omega (arith, few-here (entry .args .words .now) (entry .args .ws .now) (entry .args .locals .now) (entry .args .plan) (entry .args .s) (entry .args .v) (entry .args .top) (entry .pre .0) _ (c .before .before .value-of .ensures))
 
 arity-requires : tie.Need-arity-requires
-arity-requires c κs = let entry = c .before .before .before .before .before .before .before .before in called-inside (entry .args .words .now) (entry .args .ws .now) (entry .args .locals .now) (entry .args .plan) (entry .args .s) (entry .args .v) (entry .args .top) (entry .pre .0) _ (entry .pre .2) _ (c .before .before .read .ensures) _ (c .called .ensures)
+arity-requires c κs = let entry = c .before .before .before .before .before .before .before .before .before .before in called-inside (entry .args .words .now) (entry .args .ws .now) (entry .args .locals .now) (entry .args .plan) (entry .args .s) (entry .args .v) (entry .args .top) (entry .pre .0) _ (entry .pre .2) _ (c .before .before .before .before .seat-of .ensures) _ (c .called .ensures)
 
 next-argument-requires : tie.Need-next-argument-requires
-next-argument-requires c κs = let entry = c .before .before .before .before .before .before .before .before .before .before .before .before in (entry .pre .0, entry .pre .1, entry .pre .2, ap (λ (z : Frame). z .value) (c .before .before .before .before .before .before .read .ensures), rw (c .before .before .before .arity .ensures, called-here (entry .args .words .now) (entry .args .ws .now) (entry .args .locals .now) (entry .args .plan) (entry .args .s) (entry .args .v) (entry .args .top) (entry .pre .0) _ (entry .pre .2) _ (c .before .before .before .before .before .before .read .ensures) _ (c .before .before .before .before .called .ensures)) at (c .before .before .if1 .taken))
+next-argument-requires c κs = let entry = c .before .before .before .before .before .before .before .before .before .before .before .before .before .before in (entry .pre .0, entry .pre .1, entry .pre .2, c .before .before .before .before .before .before .value-of .ensures, rw (c .before .before .before .arity .ensures, called-here (entry .args .words .now) (entry .args .ws .now) (entry .args .locals .now) (entry .args .plan) (entry .args .s) (entry .args .v) (entry .args .top) (entry .pre .0) _ (entry .pre .2) _ (c .before .before .before .before .before .before .before .before .seat-of .ensures) _ (c .before .before .before .before .called .ensures)) at (c .before .before .if1 .taken))
 
 last-argument-requires : tie.Need-last-argument-requires
-last-argument-requires c κs = let entry = c .before .before .before .before .before .before .before .before .before .before .before .before in (entry .pre .0, entry .pre .1, ap (λ (z : Frame). z .value) (c .before .before .before .before .before .before .read .ensures), rw (c .before .before .before .arity .ensures) at (c .before .before .if1 .left), called-here (entry .args .words .now) (entry .args .ws .now) (entry .args .locals .now) (entry .args .plan) (entry .args .s) (entry .args .v) (entry .args .top) (entry .pre .0) _ (entry .pre .2) _ (c .before .before .before .before .before .before .read .ensures) _ (c .before .before .before .before .called .ensures))
+last-argument-requires c κs = let entry = c .before .before .before .before .before .before .before .before .before .before .before .before .before .before in (entry .pre .0, entry .pre .1, c .before .before .before .before .before .before .value-of .ensures, rw (c .before .before .before .arity .ensures) at (c .before .before .if1 .left), called-here (entry .args .words .now) (entry .args .ws .now) (entry .args .locals .now) (entry .args .plan) (entry .args .s) (entry .args .v) (entry .args .top) (entry .pre .0) _ (entry .pre .2) _ (c .before .before .before .before .before .before .before .before .seat-of .ensures) _ (c .before .before .before .before .called .ensures))
 
 same-length : tie.Need-same-length
 same-length c = search needs
@@ -58,8 +59,9 @@ pub ret-argument-spec : {M : Type 1} → statement M
 ret-argument-spec =
     tie.close
     (tie.spec
-    mul-read
-    read-requires
+    mul-b
+    seat-of-requires
+    value-of-requires
     mul-called
     shared-slice-read-called
     called-requires

@@ -2,7 +2,7 @@
 use Rattle.frames.specs.Frames.{frameCount}
 use Rattle.moves.proofs.Returning.{sitting, binding-few, stepped-binding}
 use Rattle.moves.proofs.Steps.{bounds}
-use Rattle.moves.specs.declared.Seat.{Seat}
+use Rattle.frames.specs.declared.Seat.{Seat}
 use Prim.Native.Nat.{_*_}
 use native.Mathlib.Omega.{arith}
 use mathlib.Core.Path.{_≡_, ap}

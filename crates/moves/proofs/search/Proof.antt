@@ -16,14 +16,11 @@ abbrev μ-loop : tie.MeasureT-loop
 loop-holds : tie.Need-loop-holds Inv-loop μ-loop
 loop-holds c = (omega arith, omega arith, λ j a b. absurd (omega arith))
 
-mul-read : tie.Need-mul-read Inv-loop μ-loop
-mul-read c = omega arith
-
-read-requires : tie.Need-read-requires Inv-loop μ-loop
-read-requires c κs = omega arith
+kind-at-requires : tie.Need-kind-at-requires Inv-loop μ-loop
+kind-at-requires c κs = omega arith
 
 returns : tie.Need-returns Inv-loop μ-loop
-returns c = record { after = c .before .before .before .before .loop .inv .0; below = λ j a b d. c .before .before .before .before .loop .inv .2 j a d; is = λ h. rw (c .before .before .read .ensures) at (c .if1 .taken); none = λ h. absurd (omega arith) }
+returns c = record { after = c .before .before .before .loop .inv .0; below = λ j a b d. c .before .before .before .loop .inv .2 j a d; is = λ h. rw (c .before .kind-at .ensures) at (c .if1 .taken); none = λ h. absurd (omega arith) }
 
 add-i : tie.Need-add-i Inv-loop μ-loop
 add-i c = omega arith
@@ -32,7 +29,7 @@ loop-less : tie.Need-loop-less Inv-loop μ-loop
 loop-less c = omega arith
 
 loop-again : tie.Need-loop-again Inv-loop μ-loop
-loop-again c = (omega arith, omega arith, found-more (c .before .before .before .before .before .before .args .ws .now) (c .before .before .before .before .before .before .args .from) (c .before .before .before .before .loop .i) (c .before .before .before .before .loop .inv .2) (rw (c .before .before .read .ensures) at (c .if1 .left)))
+loop-again c = (omega arith, omega arith, found-more (c .before .before .before .before .before .args .ws .now) (c .before .before .before .before .before .args .from) (c .before .before .before .loop .i) (c .before .before .before .loop .inv .2) (rw (c .before .kind-at .ensures) at (c .if1 .left)))
 
 returns-2 : tie.Need-returns-2 Inv-loop μ-loop
 returns-2 c = record { after = omega arith; below = λ j a b d. c .before .loop .inv .2 j a (omega arith); is = λ h. absurd (omega arith); none = λ h. refl }
@@ -44,8 +41,7 @@ search-spec =
     Inv-loop
     μ-loop
     loop-holds
-    mul-read
-    read-requires
+    kind-at-requires
     returns
     add-i
     loop-less

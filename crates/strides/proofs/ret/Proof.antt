@@ -1,8 +1,7 @@
 -- `strides::ret` meets its contract, by the laws of Striding, Settling.
-use mathlib.Core.Path.{ap, sym, _∙_}
+use mathlib.Core.Path.{sym, _∙_}
 use native.Mathlib.Omega.{arith}
 use borrow.Author.Tests.{ltb-true, ltb-false}
-use Rattle.frames.specs.declared.Frame.{Frame}
 use Rattle.moves.proofs.Returning.{stepped-dry}
 use Rattle.compact.specs.Compact.{full, Settles}
 use Rattle.strides.proofs.Settling.{move-strides}
@@ -14,20 +13,23 @@ use Rattle.strides.proofs.ret.Tie as tie
 sub-top : tie.Need-sub-top
 sub-top c = search needs
 
-mul-read : tie.Need-mul-read
-mul-read c = search needs
-
-read-requires : tie.Need-read-requires
-read-requires c κs = search needs
+kind-at-requires : tie.Need-kind-at-requires
+kind-at-requires c κs = search needs
 
 arrive-requires : tie.Need-arrive-requires
-arrive-requires c κs = let p = c .before .before .before .before .before .before .before .before .before .before .before in (record { calm = p .pre .0; is = p .pre .1; depth = omega arith; of-kind = sym (ap (λ (z : Frame). z .kind) (c .before .before .before .before .read .ensures)) }, c .before .before .if2 .taken, p .pre .2)
+arrive-requires c κs = let p = c .before .before .before .before .before .before .before .before .before .before .before in (record { calm = p .pre .0; is = p .pre .1; depth = omega arith; of-kind = sym (c .before .before .before .before .kind-at .ensures) }, c .before .before .if2 .taken, p .pre .2)
 
 allows-requires : tie.Need-allows-requires
 allows-requires c κs = search needs
 
 ret-paid-requires : tie.Need-ret-paid-requires
-ret-paid-requires c κs = let p = c .before .before .before .before .before .before .before .before .before .before .before .before .before in (record { calm = p .pre .0; is = p .pre .1; depth = omega arith; of-kind = sym (ap (λ (z : Frame). z .kind) (c .before .before .before .before .before .before .read .ensures)) }, omega arith, ltb-true _ _ (sym (c .before .before .before .allows .ensures) ∙ c .before .before .if3 .taken), p .pre .2)
+ret-paid-requires c κs = let p = c .before .before .before .before .before .before .before .before .before .before .before .before .before in (record { calm = p .pre .0; is = p .pre .1; depth = omega arith; of-kind = sym (c .before .before .before .before .before .before .kind-at .ensures) }, omega arith, ltb-true _ _ (sym (c .before .before .before .allows .ensures) ∙ c .before .before .if3 .taken), p .pre .2)
+
+mul-seat-of : tie.Need-mul-seat-of
+mul-seat-of c = search needs
+
+seat-of-requires : tie.Need-seat-of-requires
+seat-of-requires c κs = search needs
 
 halt-requires : tie.Need-halt-requires
 halt-requires c κs = search needs
@@ -61,18 +63,19 @@ same-length-5 : tie.Need-same-length-5
 same-length-5 c = search needs
 
 returns-4 : tie.Need-returns-4
-returns-4 c = let p = c .before .before .before .before .before .before .before .before .before .before .before .before .before in move-strides (p .args .words .now) (p .args .ws .now) (p .args .locals .now) (p .args .plan) (p .args .g) (p .pre .0) _ _ _ (stepped-dry (p .args .words .now) (p .args .ws .now) (p .args .locals .now) (p .args .plan) (full (p .args .g)) (p .args .v) _ _ (returned (p .args .words .now) (p .args .ws .now) (p .args .locals .now) (p .args .plan) (p .args .g) (p .args .v) _ _ (record { calm = p .pre .0; is = p .pre .1; depth = omega arith; of-kind = sym (ap (λ (z : Frame). z .kind) (c .before .before .before .before .before .before .read .ensures)) })) (ltb-false _ _ (sym (c .before .before .before .allows .ensures) ∙ c .before .before .if3 .left)) (omega arith) _ (c .before .before .before .before .before .before .read .ensures) _ (c .before .halt .ensures)) _ (c .settle .ensures)
+returns-4 c = let p = c .before .before .before .before .before .before .before .before .before .before .before .before .before .before .before in move-strides (p .args .words .now) (p .args .ws .now) (p .args .locals .now) (p .args .plan) (p .args .g) (p .pre .0) _ _ _ (stepped-dry (p .args .words .now) (p .args .ws .now) (p .args .locals .now) (p .args .plan) (full (p .args .g)) (p .args .v) _ _ (returned (p .args .words .now) (p .args .ws .now) (p .args .locals .now) (p .args .plan) (p .args .g) (p .args .v) _ _ (record { calm = p .pre .0; is = p .pre .1; depth = omega (arith, c .before .before .before .before .before .before .before .before .before .before .if1 .left); of-kind = sym (c .before .before .before .before .before .before .before .before .kind-at .ensures) })) (ltb-false _ _ (sym (c .before .before .before .before .before .allows .ensures) ∙ c .before .before .before .before .if3 .left)) (omega (arith, c .before .before .before .before .before .before .if2 .left)) _ (c .before .before .seat-of .ensures) _ (c .before .halt .ensures)) _ (c .settle .ensures)
 
 pub ret-spec : {M : Type 1} → statement M
 ret-spec =
     tie.close
     (tie.spec
     sub-top
-    mul-read
-    read-requires
+    kind-at-requires
     arrive-requires
     allows-requires
     ret-paid-requires
+    mul-seat-of
+    seat-of-requires
     halt-requires
     settle-requires
     returns
