@@ -17,7 +17,7 @@
 
 use schedule::Span;
 ghost use mathlib.Core.Path.{_≡_};
-ghost use Prim.Native.Nat.{_+_, _*_, _<_, _≤_};
+ghost use Prim.Native.Nat.{_+_, _<_, _≤_};
 ghost use lib.ListN.{length, drop, replicate};
 ghost use lib.Seq.{paste};
 ghost use Rattle.frames.specs.Frames.{localsWord, argumentsWord, frameKind, frameValue, frameBefore, frameLeft, seatAt, saved, pushed, turned, collected, marked, loaded, appended};
