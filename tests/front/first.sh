@@ -28,12 +28,12 @@ diff "$work/check.said" "${log:-/dev/null}" | grep '^<' && wrong "the prover's t
 # PAGE SECTION: its lines
 section() { awk -v title="## $2" '/^## / { inside = $0 == title } inside' "$1"; }
 
-# what is needed stands first, with each tool that the gate asks for and the toolchain's version
+# what is needed stands first, with each tool that the gate asks for and the toolchain's version, whatever the build
 seen=$((seen + 1))
 [ "$(grep -m 1 '^## ' README.md)" = '## What is needed' ] || wrong "README does not begin with what is needed"
 section README.md 'What is needed' > "$work/needed"
 tools=$(sed -n 's/^tools=.\([a-z0-9 ]*\).$/\1/p' .ci/run)
-for text in "$(rt version)" x86-64 $tools; do
+for text in "$(rt version | grep -o '^rattle-kit-[0-9a-z]*')" x86-64 $tools; do
     seen=$((seen + 1))
     grep -qF "$text" "$work/needed" || wrong "'$text' is not in what is needed"
 done
