@@ -157,6 +157,11 @@ impl Bench {
                 *self.kinds.entry(kind).or_default() += 1;
                 reports.send(input);
             }
+            if k % 8 == 0 {
+                let tau = inputs::TAU_WORDS[(k / 8) as usize % inputs::TAU_WORDS.len()];
+                *self.kinds.entry("N by default").or_default() += 1;
+                reports.send(inputs::period_by_default(dice, tau));
+            }
         }
     }
 }
@@ -197,6 +202,17 @@ fn too_few(b: &Bench, reports: &Tally, count: u64) -> u64 {
     for what in ["breadth none", "breadth number", "sequential stop 20", "parallel stop 21", "heartbeat stop 22"] {
         want(format!("reports {what}"), reports.lines.get(what).copied().unwrap_or(0) as usize, share(100));
     }
+    for tau in inputs::TAU_WORDS {
+        let what: &[&str] = match tau {
+            0 | 1 => &["promotions", "no promotion"],
+            2..=500 => &["no promotion"],
+            _ => &["refused 9"],
+        };
+        for what in what {
+            let have = reports.by_default.get(&(tau, *what)).copied().unwrap_or(0);
+            want(format!("reports with 0 for N and {tau} for tau: {what}"), have as usize, share(20));
+        }
+    }
     few
 }
 
@@ -213,6 +229,7 @@ fn round(count: u64, seed: u64) -> u64 {
     println!("  different places: {:?}", b.places.iter().map(|(k, p)| (k, p.len())).collect::<Vec<_>>());
     println!("  frames: {} numbers, from {:?} to {:?}", b.frames.len(), b.frames.first(), b.frames.last());
     println!("  lines of reports: {:?}", reports.lines);
+    println!("  0 for N, by the word for tau: {:?}", reports.by_default);
     b.bad + reports.bad + too_few(&b, &reports, count)
 }
 

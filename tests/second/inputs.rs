@@ -43,6 +43,17 @@ fn changed(dice: &mut Dice, mut w: Vec<u32>) -> Vec<u8> {
     bytes(&w)
 }
 
+/// Words for tau beside a 0 for N: the default, the least, about the last that N by default serves, about the largest, and two whose
+/// 20-fold is above 2^32, the first by 4.
+pub const TAU_WORDS: [u32; 9] = [0, 1, 499, 500, 501, 10_000, 10_001, 214_748_365, u32::MAX];
+
+/// A well-formed job with 0 for N and this word for tau.
+pub fn period_by_default(dice: &mut Dice, tau: u32) -> Vec<u8> {
+    let mut w = words(&jobs::well_formed(dice));
+    (w[1], w[2]) = (0, tau);
+    bytes(&w)
+}
+
 /// Around the longest input that is looked at, whole words or not.
 fn long(dice: &mut Dice, w: Vec<u32>) -> Vec<u8> {
     let mut b = bytes(&w);

@@ -1,4 +1,5 @@
 //! Runs the report program as a process, on an input, and compares what it writes with the second implementation's report.
+use crate::inputs::TAU_WORDS;
 use crate::report::report;
 use std::collections::BTreeMap;
 use std::io::Write;
@@ -26,15 +27,46 @@ fn shown(bytes: &[u8]) -> String {
     String::from_utf8_lossy(bytes).into_owned()
 }
 
+fn words(input: &[u8]) -> Vec<u32> {
+    input.chunks_exact(4).map(|b| u32::from_le_bytes([b[0], b[1], b[2], b[3]])).collect()
+}
+
+/// The work and the forks of a machine's line in a report, where it has a value.
+fn costs(report: &str, machine: &str) -> Option<(u64, u64)> {
+    let line = report.lines().find_map(|l| l.strip_prefix(machine)?.strip_prefix(" value "))?;
+    let numbers: Vec<u64> = line.split(' ').filter_map(|w| w.parse().ok()).collect();
+    Some((numbers[1], numbers[3]))
+}
+
 #[derive(Default)]
 pub struct Tally {
     pub runs: u64,
     pub bad: u64,
     /// Lines by their first two words, a value's and a stop's also by the third.
     pub lines: BTreeMap<String, u64>,
+    /// Inputs with 0 for N and a word of TAU_WORDS for tau, by that word and what came of them.
+    pub by_default: BTreeMap<(u32, &'static str), u64>,
 }
 
 impl Tally {
+    /// Of an input with 0 for N: what came of it; 20 times the heartbeat's work is at most 21 times the sequential work.
+    fn period_by_default(&mut self, tau: u32, report: &str) {
+        let (sequential, heartbeat) = (costs(report, "sequential"), costs(report, "heartbeat"));
+        let what = match heartbeat {
+            _ if report.starts_with("refused 9 ") => "refused 9",
+            Some((_, 1..)) => "promotions",
+            Some(_) => "no promotion",
+            None => "other",
+        };
+        *self.by_default.entry((tau, what)).or_default() += 1;
+        if let (Some((s, _)), Some((h, _))) = (sequential, heartbeat) {
+            if 20 * h > 21 * s {
+                self.bad += 1;
+                println!("MORE THAN 5 PERCENT with tau {tau}: {report:?}");
+            }
+        }
+    }
+
     fn compare(&mut self, program: &PathBuf, input: &[u8]) {
         let wanted = report(input);
         let got = fed(Command::new(program), input, Stdio::piped());
@@ -42,9 +74,14 @@ impl Tally {
         if got.stdout != wanted || !got.stderr.is_empty() || got.status.code() != Some(0) {
             self.bad += 1;
             if self.bad <= 5 {
-                let words: Vec<u32> = input.chunks_exact(4).map(|b| u32::from_le_bytes([b[0], b[1], b[2], b[3]])).collect();
+                let words = words(input);
                 println!("DISAGREE report on {} bytes, {:?}", input.len(), &words[..words.len().min(400)]);
                 println!("  program {:?} {:?} {:?}, second {:?}", got.status.code(), shown(&got.stdout), shown(&got.stderr), shown(&wanted));
+            }
+        }
+        if let [_, 0, tau, _, ..] = words(&input[..input.len().min(16)])[..] {
+            if TAU_WORDS.contains(&tau) {
+                self.period_by_default(tau, &shown(&got.stdout));
             }
         }
         for line in shown(&wanted).lines() {
@@ -64,6 +101,9 @@ impl Tally {
         self.bad += other.bad;
         for (k, n) in other.lines {
             *self.lines.entry(k).or_default() += n;
+        }
+        for (k, n) in other.by_default {
+            *self.by_default.entry(k).or_default() += n;
         }
     }
 }

@@ -1,4 +1,4 @@
-//! The report program of document 01, written from the document alone: its bytes for any input bytes.
+//! The report program of document 01, with the default N of document 02 (P2), written from the documents alone: its bytes for any input bytes.
 use crate::second::{self, Answer, Machine};
 
 const MOST_BYTES: usize = 65_536;
@@ -24,10 +24,11 @@ fn asked(input: &[u8]) -> Option<Asked> {
     }
     let args = rest.get(..2 * first[3] as usize)?;
     let or = |word: u32, default: u64| if word == 0 { default } else { word as u64 };
+    let tau = or(first[2], 50);
     Some(Asked {
         fuel: or(first[0], 1_000_000),
-        period: or(first[1], 1_000),
-        tau: or(first[2], 50),
+        period: or(first[1], tau * 20),
+        tau,
         args: args.chunks(2).map(|p| p[0] as u64 | (p[1] as u64) << 32).collect(),
         table: rest[args.len()..].to_vec(),
     })

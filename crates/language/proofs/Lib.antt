@@ -4,4 +4,5 @@ pub mod Admission
 pub mod Told
 pub mod Stops
 pub mod Claim
+pub mod House
 pub mod Settled

@@ -4,7 +4,6 @@ use mathlib.Core.Path.{_≡_}
 use mathlib.Core.List.{List}
 use Rattle.table.specs.Words.{arityAt}
 use Rattle.table.specs.WellFormed.{WellFormed}
-use Rattle.language.specs.declared.Settings.{Settings}
 use Rattle.language.specs.Checks.{framesIn}
 
 -- n is low to high
@@ -22,9 +21,3 @@ pub record Admitted (w : List ℕ) (count F N τ W : ℕ) : Type 0 where
   pub tau : Within 1 10000 τ
   pub whole : W ≡ 32 * framesIn W
   pub frames : Within 1 4096 (framesIn W)
-
--- "the house default: fuel 1,000,000, N 1,000, τ 50"
-pub record House (s : Settings) : Type 0 where
-  pub fuel : s .fuel .0 ≡ 1000000
-  pub period : s .period ≡ 1000
-  pub tau : s .tau ≡ 50

@@ -10,9 +10,11 @@ use table::Reading;
 use table::Refusal;
 ghost use mathlib.Core.Path.{_≡_};
 ghost use mathlib.Core.Logic.{_↔_};
+ghost use Prim.Native.Nat.{_<_};
 ghost use Rattle.table.specs.Read.{refused};
 ghost use Rattle.language.specs.Checks.{rangeOf, workspaceOf, settingsOf, checkedOf};
-ghost use Rattle.language.specs.Admitted.{Admitted, House};
+ghost use Rattle.language.specs.Admitted.{Admitted};
+ghost use Rattle.language.specs.House.{House};
 
 // 01: "The counts are transitions, forks, work and span."
 pub struct Counts {
@@ -45,20 +47,23 @@ pub struct Settings {
 }
 
 impl Settings {
-    // 01: "the house default: fuel 1,000,000, N 1,000, τ 50".
+    // 01: "the house default: fuel 1,000,000, .. τ 50".
     pub const FUEL: Fuel = Fuel(1000000);
-
-    pub const PERIOD: u64 = 1000;
 
     pub const TAU: u64 = 50;
 
-    pub fn house() -> Self
-        ensures { λ r. ⌜ House r ⌝ }
+    // 02, P2: 0 for N means "20 times the τ in use".
+    pub const PERIOD_PER_TAU: u64 = 20;
+
+    // The house default beside the τ in use, which is a 32-bit word.
+    pub fn house(tau: u64) -> Self
+        requires { ⌜ tau < 4294967296 ⌝ }
+        ensures { λ r. ⌜ House tau r ⌝ }
     {
         Settings {
             fuel: Self::FUEL,
-            period: Self::PERIOD,
-            tau: Self::TAU,
+            period: Self::PERIOD_PER_TAU * tau,
+            tau,
         }
     }
 }

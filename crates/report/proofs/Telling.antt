@@ -23,12 +23,13 @@ use Rattle.language.specs.declared.Answer.the-variants.{Value, Stopped, Refused
 use Rattle.schedule.specs.Machine.{sequential, parallel, heartbeat}
 use Rattle.language.proofs.Stops.{stops-listed}
 use Rattle.language.proofs.Claim.{claim}
+use Rattle.language.proofs.House.{house-overhead}
 use Rattle.machine.specs.declared.Answers.{Answers}
 use Rattle.machine.specs.AllThree.{AllThree}
-use Rattle.report.specs.Input.{countOf, wordsOf, jobOf, complete, whole}
+use Rattle.report.specs.Input.{countOf, wordsOf, orHouse, periodWord, jobOf, complete, whole}
 use Rattle.lines.specs.Lines.{ascii, breadthLine, machineLines, reportLines}
 use Rattle.lines.specs.Buffer.{Wrote}
-use Rattle.report.specs.Report.{noJob, StopsListedOf, DemandThreeOf, linesOn, wordsReport, wordsLeave, reportOf, leftAfter, WordsReported, Reported}
+use Rattle.report.specs.Report.{noJob, StopsListedOf, DemandThreeOf, FivePercentOf, linesOn, wordsReport, wordsLeave, reportOf, leftAfter, WordsReported, Reported}
 use Rattle.lines.proofs.Buffer.{same}
 
 -- what a complete input has
@@ -81,6 +82,10 @@ module _ (bytes ws out : List ℕ) where
   every : DemandThreeOf (jobOf (wordsOf bytes)) (length ws)
   every = claim _ _ _ _ _ _
 
+  cheap : FivePercentOf (wordsOf bytes) (length ws)
+  unfolding jobOf orHouse
+  cheap h = let zero : periodWord (wordsOf bytes) ≡ 0 = omega (arith, h) in rw zero (house-overhead _ _ _ _ _)
+
   listed : StopsListedOf (jobOf (wordsOf bytes)) (length ws)
   listed = record {
     sequential-stop = stops-listed sequential _ _ _ _ _ _;
@@ -89,7 +94,7 @@ module _ (bytes ws out : List ℕ) where
   }
 
   pub cramped : length out < 512 → Reported bytes ws out ws out 0 × ByteCount 0 out
-  cramped h = (record { number = rw (lt-leb 512 (length out) h); written = rw (lt-leb 512 (length out) h); workspace = rw (lt-leb 512 (length out) h); stops = listed; demand-3 = every }, (omega arith, refl))
+  cramped h = (record { number = rw (lt-leb 512 (length out) h); written = rw (lt-leb 512 (length out) h); workspace = rw (lt-leb 512 (length out) h); stops = listed; demand-3 = every; five-percent = cheap }, (omega arith, refl))
 
   pub reported : (ws′ out′ : List ℕ) (r : ℕ) (text : List ℕ) → 512 ≤ length out → text ≡ reportOf bytes (length ws) → ws′ ≡ leftAfter bytes ws
       → Wrote out 0 text out′ r → Reported bytes ws out ws′ out′ r × ByteCount r out′
@@ -102,6 +107,7 @@ module _ (bytes ws out : List ℕ) where
           workspace = rw (le-leb 512 (length out) h) left;
           stops = listed;
           demand-3 = every;
+          five-percent = cheap;
         },
         (room, sym (length-take-le r out′ room)),
       )

@@ -25,6 +25,27 @@ local slot =
     ∷ 1 ∷ slot ∷ 0 ∷ 0
     ∷ []
 
+-- a both whose left takes 22 transitions (seven lets around a constant), whose right takes 13 (four), and whose body takes 1 (left's value)
+unfoldable pub long : List ℕ
+long =
+    1 ∷ 0 ∷ 26
+    ∷ 6 ∷ 0 ∷ 16 ∷ 25
+    ∷ 4 ∷ 0 ∷ 3 ∷ 0 ∷ 0 ∷ 1 ∷ 0 ∷ 0
+    ∷ 4 ∷ 0 ∷ 5 ∷ 0 ∷ 0 ∷ 1 ∷ 0 ∷ 0
+    ∷ 4 ∷ 0 ∷ 7 ∷ 0 ∷ 0 ∷ 1 ∷ 0 ∷ 0
+    ∷ 4 ∷ 0 ∷ 9 ∷ 0 ∷ 0 ∷ 1 ∷ 0 ∷ 0
+    ∷ 4 ∷ 0 ∷ 11 ∷ 0 ∷ 0 ∷ 1 ∷ 0 ∷ 0
+    ∷ 4 ∷ 0 ∷ 13 ∷ 0 ∷ 0 ∷ 1 ∷ 0 ∷ 0
+    ∷ 4 ∷ 0 ∷ 15 ∷ 0 ∷ 0 ∷ 1 ∷ 0 ∷ 0
+    ∷ 0 ∷ 6 ∷ 0 ∷ 0
+    ∷ 4 ∷ 0 ∷ 18 ∷ 0 ∷ 0 ∷ 1 ∷ 0 ∷ 0
+    ∷ 4 ∷ 0 ∷ 20 ∷ 0 ∷ 0 ∷ 1 ∷ 0 ∷ 0
+    ∷ 4 ∷ 0 ∷ 22 ∷ 0 ∷ 0 ∷ 1 ∷ 0 ∷ 0
+    ∷ 4 ∷ 0 ∷ 24 ∷ 0 ∷ 0 ∷ 1 ∷ 0 ∷ 0
+    ∷ 0 ∷ 5 ∷ 0 ∷ 0
+    ∷ 1 ∷ 0 ∷ 0 ∷ 0
+    ∷ []
+
 -- fuel, N, τ and table A, with no arguments
 unfoldable pub onA : ℕ → ℕ → ℕ → List ℕ
 onA fuel N τ = bytesOf (fuel ∷ N ∷ τ ∷ 0 ∷ tableA)
@@ -33,8 +54,21 @@ unfoldable pub rows : List Row
 rows =
     -- 01: "The report on words 100, 3, 2, 0 and then A"
     record { input = onA 100 3 2; report = "sequential value 4 work 11 span 11 forks 0\nparallel value 4 work 9 span 7 forks 2\nheartbeat value 4 work 11 span 10 forks 1\nbreadth 1\n" }
-    -- the house default for all three: no promotion in 1,000 transitions, and two forks at 50 each
+    -- the house default for all three: no promotion in 20 · 50 transitions, and two forks at 50 each
     ∷ record { input = onA 0 0 0; report = "sequential value 4 work 11 span 11 forks 0\nparallel value 4 work 105 span 103 forks 2\nheartbeat value 4 work 11 span 11 forks 0\nbreadth 1\n" }
+    -- 02, P2: "20 times the τ in use". With τ 1 the both is promoted after 20 transitions, with 3 left to make in its left branch: a span of
+    -- 20 + 1 + 13 + 1. With τ 2 the run ends before N.
+    ∷ record { input = bytesOf (0 ∷ 0 ∷ 1 ∷ 0 ∷ long); report = "sequential value 6 work 39 span 39 forks 0\nparallel value 6 work 37 span 24 forks 1\nheartbeat value 6 work 38 span 35 forks 1\nbreadth 1\n" }
+    ∷ record { input = bytesOf (0 ∷ 0 ∷ 2 ∷ 0 ∷ long); report = "sequential value 6 work 39 span 39 forks 0\nparallel value 6 work 38 span 25 forks 1\nheartbeat value 6 work 39 span 39 forks 0\nbreadth 1\n" }
+    -- "A τ above 500 is then refusal 9", also above 10,000, also where 20 · τ is 2^32 + 4 or above every word; with N written it is not
+    ∷ record { input = onA 0 0 500; report = "sequential value 4 work 11 span 11 forks 0\nparallel value 4 work 1005 span 1003 forks 2\nheartbeat value 4 work 11 span 11 forks 0\nbreadth 1\n" }
+    ∷ record { input = onA 0 0 501; report = "refused 9 function 0 node 0\n" }
+    ∷ record { input = onA 0 0 10001; report = "refused 9 function 0 node 0\n" }
+    ∷ record { input = onA 0 0 214748365; report = "refused 9 function 0 node 0\n" }
+    ∷ record { input = onA 0 0 4294967295; report = "refused 9 function 0 node 0\n" }
+    ∷ record { input = onA 0 1000 501; report = "sequential value 4 work 11 span 11 forks 0\nparallel value 4 work 1007 span 1005 forks 2\nheartbeat value 4 work 11 span 11 forks 0\nbreadth 1\n" }
+    -- "unless an earlier check refuses"
+    ∷ record { input = onA 100000001 0 501; report = "refused 8 function 0 node 0\n" }
     -- 01's stop, as an example of its line; the others have fuel enough
     ∷ record { input = onA 10 3 2; report = "sequential stop 20 function 0 node 6 transitions 10\nparallel value 4 work 9 span 7 forks 2\nheartbeat value 4 work 11 span 10 forks 1\nbreadth 1\n" }
     -- a function that calls itself for ever: all three stop, and there is no breadth

@@ -5,6 +5,7 @@ use mathlib.Core.Bool.{Bool, cond, _&&_}
 use mathlib.Core.List.{List, [], _∷_}
 use lib.ListN.{length, getD, drop}
 use lib.Dec.{eqb, leb}
+use Rattle.language.specs.House.{housePeriod}
 
 -- "low byte first"
 abbrev pub wordOf : ℕ → ℕ → ℕ → ℕ → ℕ
@@ -31,7 +32,15 @@ pairsOf (suc n) w = (getD w 0 0 + 4294967296 * getD w 1 0) ∷ pairsOf n (drop 2
 unfoldable pub orHouse : ℕ → ℕ → ℕ
 orHouse given house = cond (eqb given 0) house given
 
--- WHAT THE WORDS SAY: "house default: fuel 1,000,000, N 1,000, τ 50"
+-- the second word is N's, the third τ's
+abbrev pub periodWord : List ℕ → ℕ
+periodWord w = getD w 1 0
+
+-- "the τ in use": the word's, or by "house default: .. τ 50"
+abbrev pub tauInUse : List ℕ → ℕ
+tauInUse w = orHouse (getD w 2 0) 50
+
+-- WHAT THE WORDS SAY: "house default: fuel 1,000,000, .. τ 50"; 02, P2: "0 for N shall mean 20 times the τ in use"
 pub record Job : Type 0 where
   pub fuel : ℕ
   pub period : ℕ
@@ -42,8 +51,8 @@ pub record Job : Type 0 where
 unfoldable pub jobOf : List ℕ → Job
 jobOf w = record {
   fuel = orHouse (getD w 0 0) 1000000;
-  period = orHouse (getD w 1 0) 1000;
-  tau = orHouse (getD w 2 0) 50;
+  period = orHouse (periodWord w) (housePeriod (tauInUse w));
+  tau = tauInUse w;
   arguments = pairsOf (countOf w) (drop 4 w);
   table = drop (4 + 2 * countOf w) w;
 }

@@ -9,8 +9,9 @@ use Rattle.language.specs.declared.Answer.{Answer}
 use Rattle.language.specs.Answers.{Machine, sequentialOf, parallelOf, heartbeatOf}
 use Rattle.language.specs.Stops.{StopListed}
 use Rattle.language.specs.Claim.{DemandThree}
+use Rattle.language.specs.House.{FivePercent}
 use Rattle.machine.specs.Workspace.{leftBy}
-use Rattle.report.specs.Input.{Job, wordsOf, jobOf, complete, whole}
+use Rattle.report.specs.Input.{Job, wordsOf, periodWord, jobOf, complete, whole}
 use Rattle.lines.specs.Buffer.{Wrote}
 use Rattle.lines.specs.Lines.{refusalLine, reportLines}
 
@@ -53,6 +54,12 @@ DemandThreeOf job workspace =
     DemandThree (job .period) (job .tau) (answerTo sequentialOf job workspace) (answerTo parallelOf job workspace)
     (answerTo heartbeatOf job workspace)
 
+-- 02, P2, of the answers that a report tells: 0 for N means 20 times the τ in use, "which holds the overhead to at most 5 percent of
+-- sequential work"
+abbrev pub FivePercentOf : List ℕ → ℕ → Type 0
+FivePercentOf w workspace = periodWord w ≡ 0
+    → FivePercent (answerTo sequentialOf (jobOf w) workspace) (answerTo heartbeatOf (jobOf w) workspace)
+
 -- A stop that a report tells is listed.
 pub record StopsListedOf (job : Job) (workspace : ℕ) : Type 0 where
   pub sequential-stop : StopListed (job .table) (job .fuel) (answerTo sequentialOf job workspace)
@@ -68,3 +75,4 @@ pub record Reported (bytes ws out ws′ out′ : List ℕ) (r : ℕ) : Type 0 wh
   pub workspace : ws′ ≡ cond (leb 512 (length out)) (leftAfter bytes ws) ws
   pub stops : StopsListedOf (jobOf (wordsOf bytes)) (length ws)
   pub demand-3 : DemandThreeOf (jobOf (wordsOf bytes)) (length ws)
+  pub five-percent : FivePercentOf (wordsOf bytes) (length ws)

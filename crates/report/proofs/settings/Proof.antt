@@ -1,18 +1,26 @@
--- `report::settings` meets its contract: each is its word, or the house default. Assumes nothing.
+-- `report::settings` meets its contract: each is its word, or the house default, N's by the τ in use. Assumes nothing.
+use Prim.Native.Nat.{_<_}
 use mathlib.Core.Path.{_∙_, ap}
+use lib.ListN.{getD}
+use native.Mathlib.Omega.{arith}
 use borrow.Author.Needs.{needs}
+use Rattle.language.specs.House.{housePeriod}
 use Rattle.report.specs.Input.{jobOf, orHouse}
+use Rattle.report.proofs.Words.{or-house-below}
 use Rattle.report.proofs.settings.Statement.{statement}
 use Rattle.report.proofs.settings.Tie as tie
-
-house-requires : tie.Need-house-requires
-house-requires c κs = search needs
 
 shared-slice-read-or-house : tie.Need-shared-slice-read-or-house
 shared-slice-read-or-house c = search needs
 
 or-house-requires : tie.Need-or-house-requires
 or-house-requires c κs = search needs
+
+house-requires : tie.Need-house-requires
+house-requires c κs =
+    let word = getD (c .before .before .before .args .words .now) 2 0 in
+    let fits : word < 4294967296 = omega (arith, c .before .shared-slice-known2 .given 2) in
+    omega (arith, c .or-house .ensures, or-house-below word 50 4294967296 fits (omega arith))
 
 shared-slice-read-or-house-2 : tie.Need-shared-slice-read-or-house-2
 shared-slice-read-or-house-2 c = search needs
@@ -28,15 +36,18 @@ or-house-requires-3 c κs = search needs
 
 returns : tie.Need-returns
 unfolding jobOf
-returns c = (c .before .before .before .before .or-house .ensures ∙ ap (orHouse _) (c .before .before .before .before .before .before .before .house .ensures .fuel), c .before .before .or-house2 .ensures ∙ ap (orHouse _) (c .before .before .before .before .before .before .before .house .ensures .period), c .or-house3 .ensures ∙ ap (orHouse _) (c .before .before .before .before .before .before .before .house .ensures .tau))
+returns c =
+    let house = c .before .before .before .before .before .house .ensures in
+    let tau = c .before .before .before .before .before .before .or-house .ensures in
+    (c .before .before .or-house2 .ensures ∙ ap (orHouse _) (house .fuel), c .or-house3 .ensures ∙ ap (orHouse _) (house .period ∙ ap housePeriod tau), tau)
 
 pub settings-spec : {M : Type 1} → statement M
 settings-spec =
     tie.close
     (tie.spec
-    house-requires
     shared-slice-read-or-house
     or-house-requires
+    house-requires
     shared-slice-read-or-house-2
     or-house-requires-2
     shared-slice-read-or-house-3
