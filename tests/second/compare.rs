@@ -203,14 +203,15 @@ fn too_few(b: &Bench, reports: &Tally, count: u64) -> u64 {
         want(format!("reports {what}"), reports.lines.get(what).copied().unwrap_or(0) as usize, share(100));
     }
     for tau in inputs::TAU_WORDS {
-        let what: &[&str] = match tau {
-            0 | 1 => &["promotions", "no promotion"],
-            2..=500 => &["no promotion"],
-            _ => &["refused 9"],
+        let wanted: &[(&str, u64)] = match tau {
+            0 => &[("promotions", 5), ("no promotion", 100)],
+            1 => &[("promotions", 60), ("no promotion", 20)],
+            2..=500 => &[("no promotion", 60)],
+            _ => &[("refused 9", 100)],
         };
-        for what in what {
+        for (what, least) in wanted {
             let have = reports.by_default.get(&(tau, *what)).copied().unwrap_or(0);
-            want(format!("reports with 0 for N and {tau} for tau: {what}"), have as usize, share(20));
+            want(format!("reports with 0 for N and {tau} for tau: {what}"), have as usize, share(*least));
         }
     }
     few

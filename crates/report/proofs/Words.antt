@@ -64,9 +64,9 @@ argument-is n w i l =
     rw (getD-late w 4 (4 + 2 * i) (2 * i) (omega arith), getD-late w 4 (5 + 2 * i) (2 * i + 1) (omega arith)) (sym (pair-is n (drop 4 w) i l))
 
 -- a word or its default is below what both are below
-pub or-house-below : (given house n : ℕ) → given < n → house < n → orHouse given house < n
+pub or-house-below : {r given house n : ℕ} → r ≡ orHouse given house → given < n → house < n → r < n
 unfolding orHouse
-or-house-below given house n h k = either (eqb given 0)
+or-house-below {r} {given} {house} {n} is h k = rw is (either (eqb given 0))
   where
     either : (t : Bool) → cond t house given < n
     either true = k

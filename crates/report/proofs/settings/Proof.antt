@@ -1,7 +1,5 @@
 -- `report::settings` meets its contract: each is its word, or the house default, N's by the τ in use. Assumes nothing.
-use Prim.Native.Nat.{_<_}
 use mathlib.Core.Path.{_∙_, ap}
-use lib.ListN.{getD}
 use native.Mathlib.Omega.{arith}
 use borrow.Author.Needs.{needs}
 use Rattle.language.specs.House.{housePeriod}
@@ -17,10 +15,7 @@ or-house-requires : tie.Need-or-house-requires
 or-house-requires c κs = search needs
 
 house-requires : tie.Need-house-requires
-house-requires c κs =
-    let word = getD (c .before .before .before .args .words .now) 2 0 in
-    let fits : word < 4294967296 = omega (arith, c .before .shared-slice-known2 .given 2) in
-    omega (arith, c .or-house .ensures, or-house-below word 50 4294967296 fits (omega arith))
+house-requires c κs = or-house-below (c .or-house .ensures) (c .before .shared-slice-known2 .given _ .fits) (omega arith)
 
 shared-slice-read-or-house-2 : tie.Need-shared-slice-read-or-house-2
 shared-slice-read-or-house-2 c = search needs
