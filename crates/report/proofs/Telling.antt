@@ -2,6 +2,7 @@
 --     Complete, has, lacks    an input's words, by the test of them
 --     turned-away, told       the report on words that are no job, and on a job
 --     cramped                 a buffer without room for a report
+--     overhead-bounded        what the default N buys
 --     no-words, by-words      the report on bytes that are no words, and on bytes that are
 --     too-long, ragged, all-words   which bytes are words
 -- Assumes nothing.
@@ -82,9 +83,9 @@ module _ (bytes ws out : List ℕ) where
   every : DemandThreeOf (jobOf (wordsOf bytes)) (length ws)
   every = claim _ _ _ _ _ _
 
-  cheap : FivePercentOf (wordsOf bytes) (length ws)
+  overhead-bounded : FivePercentOf (wordsOf bytes) (length ws)
   unfolding jobOf orHouse
-  cheap h = let zero : periodWord (wordsOf bytes) ≡ 0 = omega (arith, h) in rw zero (house-overhead _ _ _ _ _)
+  overhead-bounded h = let zero : periodWord (wordsOf bytes) ≡ 0 = omega (arith, h) in rw zero (house-overhead _ _ _ _ _)
 
   listed : StopsListedOf (jobOf (wordsOf bytes)) (length ws)
   listed = record {
@@ -94,7 +95,7 @@ module _ (bytes ws out : List ℕ) where
   }
 
   pub cramped : length out < 512 → Reported bytes ws out ws out 0 × ByteCount 0 out
-  cramped h = (record { number = rw (lt-leb 512 (length out) h); written = rw (lt-leb 512 (length out) h); workspace = rw (lt-leb 512 (length out) h); stops = listed; demand-3 = every; five-percent = cheap }, (omega arith, refl))
+  cramped h = (record { number = rw (lt-leb 512 (length out) h); written = rw (lt-leb 512 (length out) h); workspace = rw (lt-leb 512 (length out) h); stops = listed; demand-3 = every; five-percent = overhead-bounded }, (omega arith, refl))
 
   pub reported : (ws′ out′ : List ℕ) (r : ℕ) (text : List ℕ) → 512 ≤ length out → text ≡ reportOf bytes (length ws) → ws′ ≡ leftAfter bytes ws
       → Wrote out 0 text out′ r → Reported bytes ws out ws′ out′ r × ByteCount r out′
@@ -107,7 +108,7 @@ module _ (bytes ws out : List ℕ) where
           workspace = rw (le-leb 512 (length out) h) left;
           stops = listed;
           demand-3 = every;
-          five-percent = cheap;
+          five-percent = overhead-bounded;
         },
         (room, sym (length-take-le r out′ room)),
       )
