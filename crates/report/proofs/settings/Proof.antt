@@ -15,7 +15,7 @@ or-house-requires : tie.Need-or-house-requires
 or-house-requires c κs = search needs
 
 house-requires : tie.Need-house-requires
-house-requires c κs = or-house-below (c .or-house .ensures) (c .before .shared-slice-known2 .given _ .fits) (omega arith)
+house-requires c κs = omega (arith, or-house-below {n = 4294967296} (c .or-house .ensures) (c .before .shared-slice-known2 .given _ .fits) (omega arith))
 
 shared-slice-read-or-house-2 : tie.Need-shared-slice-read-or-house-2
 shared-slice-read-or-house-2 c = search needs
