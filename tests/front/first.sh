@@ -33,7 +33,8 @@ seen=$((seen + 1))
 [ "$(grep -m 1 '^## ' README.md)" = '## What is needed' ] || wrong "README does not begin with what is needed"
 section README.md 'What is needed' > "$work/needed"
 tools=$(sed -n 's/^tools=.\([a-z0-9 ]*\).$/\1/p' .ci/run)
-for text in "$(rt version | grep -o '^rattle-kit-[0-9a-z]*')" x86-64 $tools; do
+kit=$(rt version | grep -o '^rattle-kit-[0-9a-z]*') || wrong "rt version names no kit"
+for text in "$kit" x86-64 $tools; do
     seen=$((seen + 1))
     grep -qF "$text" "$work/needed" || wrong "'$text' is not in what is needed"
 done
