@@ -166,6 +166,19 @@ impl Bench {
     }
 }
 
+/// Kinds of breadth, and how many reports with each there are to be in a round.
+const BREADTHS: [(&str, u64); 9] = [
+    ("none, no sequential value", 500),
+    ("none, no value", 500),
+    ("below 1", 500),
+    ("1.00", 500),
+    ("1.00 with forks", 10),
+    ("above 1", 500),
+    ("10 and above", 50),
+    ("zero in the first decimal", 50),
+    ("zero in the last decimal", 100),
+];
+
 /// How many of the things asked for are too few in a round of 20,000 jobs; a smaller round is held to its share.
 fn too_few(b: &Bench, reports: &Tally, count: u64) -> u64 {
     let mut few = 0;
@@ -199,7 +212,11 @@ fn too_few(b: &Bench, reports: &Tally, count: u64) -> u64 {
         let what = format!("refused {number}");
         want(format!("reports {what}"), reports.lines.get(&what).copied().unwrap_or(0) as usize, share(20));
     }
-    for what in ["breadth none", "breadth number", "sequential stop 20", "parallel stop 21", "heartbeat stop 22"] {
+    for (kind, least) in BREADTHS {
+        let what = format!("breadth {kind}");
+        want(format!("reports {what}"), reports.lines.get(&what).copied().unwrap_or(0) as usize, share(least));
+    }
+    for what in ["sequential stop 20", "parallel stop 21", "heartbeat stop 22"] {
         want(format!("reports {what}"), reports.lines.get(what).copied().unwrap_or(0) as usize, share(100));
     }
     for tau in inputs::TAU_WORDS {

@@ -38,11 +38,31 @@ fn costs(report: &str, machine: &str) -> Option<(u64, u64)> {
     Some((numbers[1], numbers[3]))
 }
 
+/// What a report's breadth is like: without a value, by which run lacks it; else by its size, its digits, and for 1.00 whether there are forks.
+fn breadth_kinds(report: &str) -> Vec<&'static str> {
+    let Some(breadth) = report.lines().find_map(|l| l.strip_prefix("breadth ")) else { return vec![] };
+    let parallel = costs(report, "parallel");
+    let Some((whole, decimals)) = breadth.split_once('.') else {
+        return vec![if parallel.is_some() { "none, no sequential value" } else { "none, no value" }];
+    };
+    let (zero_first, zero_last) = (decimals.starts_with('0'), decimals.ends_with('0'));
+    let kinds = [
+        (whole == "0", "below 1"),
+        (breadth == "1.00", "1.00"),
+        (breadth == "1.00" && parallel.is_some_and(|(_, forks)| forks > 0), "1.00 with forks"),
+        (whole != "0" && breadth != "1.00", "above 1"),
+        (whole.len() > 1, "10 and above"),
+        (whole != "0" && zero_first && !zero_last, "zero in the first decimal"),
+        (zero_last && !zero_first, "zero in the last decimal"),
+    ];
+    kinds.into_iter().filter_map(|(is, kind)| is.then_some(kind)).collect()
+}
+
 #[derive(Default)]
 pub struct Tally {
     pub runs: u64,
     pub bad: u64,
-    /// Lines by their first two words, a value's and a stop's also by the third.
+    /// Lines by their first two words, a stop's also by the third; a breadth by its kinds.
     pub lines: BTreeMap<String, u64>,
     /// Inputs with 0 for N and a word of TAU_WORDS for tau, by that word and what came of them.
     pub by_default: BTreeMap<(u32, &'static str), u64>,
@@ -84,11 +104,13 @@ impl Tally {
                 self.period_by_default(tau, &shown(&got.stdout));
             }
         }
+        for kind in breadth_kinds(&shown(&wanted)) {
+            *self.lines.entry(format!("breadth {kind}")).or_default() += 1;
+        }
         for line in shown(&wanted).lines() {
             let words: Vec<&str> = line.split(' ').collect();
             let kept = match words[..] {
-                ["breadth", "none"] => "breadth none".to_string(),
-                ["breadth", _] => "breadth number".to_string(),
+                ["breadth", _] => continue,
                 [machine, "value", ..] => format!("{machine} value"),
                 [machine, "stop", number, ..] => format!("{machine} stop {number}"),
                 _ => words[..2].join(" "),

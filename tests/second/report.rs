@@ -1,4 +1,4 @@
-//! The report program of document 01, with the default N of document 02 (P2), written from the documents alone: its bytes for any input bytes.
+//! The report program of document 01, with the default N and the breadth of document 02 (P2, P6), written from the documents alone: its bytes for any input bytes.
 use crate::second::{self, Answer, Machine};
 
 const MOST_BYTES: usize = 65_536;
@@ -50,11 +50,14 @@ fn line(machine: &str, answer: Answer) -> String {
     }
 }
 
-fn breadth(parallel: Answer) -> String {
-    match parallel {
-        Answer::Value { work, span, .. } => format!("breadth {}\n", work / span),
-        _ => "breadth none\n".to_string(),
-    }
+/// Sequential work divided by parallel span, by long division: the whole part, and two digits more.
+fn breadth(sequential: Answer, parallel: Answer) -> String {
+    let (Answer::Value { work, .. }, Answer::Value { span, .. }) = (sequential, parallel) else {
+        return "breadth none\n".to_string();
+    };
+    let tenths = work % span * 10;
+    let hundredths = tenths % span * 10;
+    format!("breadth {}.{}{}\n", work / span, tenths / span, hundredths / span)
 }
 
 fn told(input: &[u8]) -> String {
@@ -65,7 +68,7 @@ fn told(input: &[u8]) -> String {
         return refused(number, function, node);
     }
     let (parallel, heartbeat) = (run(Machine::Parallel), run(Machine::Heartbeat));
-    line("sequential", sequential) + &line("parallel", parallel) + &line("heartbeat", heartbeat) + &breadth(parallel)
+    line("sequential", sequential) + &line("parallel", parallel) + &line("heartbeat", heartbeat) + &breadth(sequential, parallel)
 }
 
 pub fn report(input: &[u8]) -> Vec<u8> {

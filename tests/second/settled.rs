@@ -1,5 +1,6 @@
-//! Document 01's settled runs, starred or not, as rows:
-//! (name, machines, table, fuel, N, tau, frames, the eight words wanted; None = not told).
+//! Document 01's settled runs, starred or not, as rows
+//! (name, machines, table, fuel, N, tau, frames, the eight words wanted; None = not told),
+//! and its settled report, with the breadth of document 02 (P6).
 use crate::second::Machine::{self, *};
 
 pub struct Row {
@@ -21,7 +22,7 @@ pub const REPORT: &str = "\
 sequential value 4 work 11 span 11 forks 0
 parallel value 4 work 9 span 7 forks 2
 heartbeat value 4 work 11 span 10 forks 1
-breadth 1
+breadth 1.57
 ";
 
 fn value(v: u64, forks: Option<u64>, work: Option<u64>, span: Option<u64>) -> [Option<u64>; 8] {

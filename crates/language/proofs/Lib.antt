@@ -5,4 +5,5 @@ pub mod Told
 pub mod Stops
 pub mod Claim
 pub mod House
+pub mod Values
 pub mod Settled

@@ -1,5 +1,5 @@
 -- What a reader of this crate must believe: the job language, the check of the input, the answers of the three machines, what every stop tells,
--- demand 3 about the answers, the house default, and the settled runs.
+-- demand 3 about the answers, the house default, the span and work of a value, and the settled runs.
 pub mod Language
 pub mod Places
 pub mod Checks
@@ -8,6 +8,7 @@ pub mod Answers
 pub mod Stops
 pub mod Claim
 pub mod House
+pub mod Values
 pub mod Settled
 pub mod Examples
 pub mod ExampleStops

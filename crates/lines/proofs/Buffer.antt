@@ -2,6 +2,7 @@
 --     then     a text, and one from its end on
 --     same     the buffer's length stays
 --     copied   what was copied is written
+--     of-equal   a text of a number is that of an equal one
 -- Assumes nothing.
 use Prim.Native.Nat.{ℕ, _+_, _-_, _≤_}
 use mathlib.Core.Path.{_≡_, refl, sym, ap, subst, _∙_}
@@ -62,3 +63,8 @@ copied d at text part l h =
 pub then-as : {d : List ℕ} {at : ℕ} {text d₁ : List ℕ} {r : ℕ} {more d₂ : List ℕ} {e : ℕ} (told : List ℕ)
     → Wrote d at text d₁ r → Wrote d₁ r more d₂ e → more ≡ told → Wrote d at (text ++ told) d₂ e
 then-as {d} {at} {text} {d₁} {r} {more} {d₂} {e} told h g is = subst (λ (x : List ℕ). Wrote d at (text ++ x) d₂ e) is (then h g)
+
+-- a text that is told of another, equal number
+pub of-equal : {d : List ℕ} {at : ℕ} (text : ℕ → List ℕ) {d₁ : List ℕ} {r : ℕ} (n m : ℕ) → n ≡ m → Wrote d at (text n) d₁ r
+    → Wrote d at (text m) d₁ r
+of-equal {d} {at} text {d₁} {r} n m e = subst (λ (k : ℕ). Wrote d at (text k) d₁ r) e

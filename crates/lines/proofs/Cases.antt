@@ -1,4 +1,4 @@
--- The lines where the first machine is not refused, and where the parallel one has no value.
+-- The lines where the first machine is not refused, and where one of two has no value.
 -- Assumes nothing.
 use mathlib.Core.Path.{_≡_, refl}
 use Prim.Native.Nat.{ℕ}
@@ -15,9 +15,17 @@ unrefused (Value v counts) p h not = refl
 unrefused (Stopped s) p h not = refl
 unrefused (Refused r) p h not = absurd (not r refl)
 
--- where there is no value, there is no breadth
-pub no-value : (p : Answer) → ((v : ℕ) (counts : Counts) → p ≡ Value v counts → ⊥) → ascii "breadth none\n" ≡ breadthLine p
+-- where one of the two has no value, there is no breadth
+pub no-sequential-value : (s p : Answer) → ((v : ℕ) (a : Counts) → s ≡ Value v a → ⊥) → ascii "breadth none\n" ≡ breadthLine s p
 unfolding breadthLine
-no-value (Value v counts) not = absurd (not v counts refl)
-no-value (Stopped s) not = refl
-no-value (Refused r) not = refl
+no-sequential-value (Value v a) p not = absurd (not v a refl)
+no-sequential-value (Stopped s) p not = refl
+no-sequential-value (Refused r) p not = refl
+
+pub no-parallel-value : (s p : Answer) → ((v : ℕ) (a : Counts) → p ≡ Value v a → ⊥) → ascii "breadth none\n" ≡ breadthLine s p
+unfolding breadthLine
+no-parallel-value (Value v a) (Value u b) not = absurd (not u b refl)
+no-parallel-value (Value v a) (Stopped s) not = refl
+no-parallel-value (Value v a) (Refused r) not = refl
+no-parallel-value (Stopped s) p not = refl
+no-parallel-value (Refused r) p not = refl

@@ -2,3 +2,5 @@
 pub mod Buffer
 mod Digits
 mod Cases
+pub mod Quotient
+mod Examples

@@ -1,8 +1,9 @@
--- The report's lines (01, "The report program" and "Settled runs"). Every line ends in a newline; all numbers are decimal.
-use Prim.Native.Nat.{ℕ, zero, suc, _+_, _/_, _%_}
+-- The report's lines (01, "The report program" and "Settled runs"; the breadth is that of 02, P6). Every line ends in a newline; all numbers are decimal.
+use Prim.Native.Nat.{ℕ, zero, suc, _+_, _*_, _/_, _%_, _≤_, _<_}
 use Prim.Native.Char.{code}
 use Prim.Native.String.{String}
 use Prim.Native.String as text
+use mathlib.Core.Logic.{_↔_}
 use mathlib.Core.Bool.{cond}
 use mathlib.Core.List.{List, [], _∷_, _++_}
 use lib.Dec.{ltb}
@@ -61,19 +62,38 @@ answerLine (Value v counts) = valueLine v counts
 answerLine (Stopped s) = stopLine s
 answerLine (Refused r) = refusalLine r
 
--- "The last line is the breadth: parallel work divided by parallel span, rounded down, or `none` where that run has no value." A span of 0
--- is no run's; the quotient by it is told as 0
-unfoldable pub breadthLine : Answer → List ℕ
-breadthLine (Value v counts) = tagged "breadth " (counts .work .0 / counts .span .0) ++ newline
-breadthLine (Stopped s) = ascii "breadth none\n"
-breadthLine (Refused r) = ascii "breadth none\n"
+-- 02, P6: "sequential work divided by parallel span, with two decimals, rounded down": so many hundredths. No span of a value is 0 (crate
+-- language, theorem `spans-positive`); of a span of 0 the quotient is 0
+abbrev pub breadthOf : ℕ → ℕ → ℕ
+breadthOf work span = work * 100 / span
+
+-- THEOREM (proofs/Quotient.antt, `below-one`): a breadth below 1 says that the parallel span is above the sequential work
+abbrev pub BelowOne : Type 0
+BelowOne = (work span : ℕ) → 1 ≤ span → (breadthOf work span < 100) ↔ (work < span)
+
+-- n hundredths after their whole part: a point and the last two digits, always two, as `.57`, `.07` and `.00`
+unfoldable pub decimals : ℕ → List ℕ
+decimals n = ascii "." ++ ((48 + n / 10 % 10) ∷ (48 + n % 10) ∷ [])
+
+-- as `breadth 1.57`
+unfoldable pub quotientLine : ℕ → List ℕ
+quotientLine n = tagged "breadth " (n / 100) ++ (decimals n ++ newline)
+
+-- 02, P6: "`none` unless both runs have values". No report needs the second and the third clause: where the sequential run has a value the parallel
+-- run has it, too (demand 3)
+unfoldable pub breadthLine : Answer → Answer → List ℕ
+breadthLine (Value v a) (Value u p) = quotientLine (breadthOf (a .work .0) (p .span .0))
+breadthLine (Value v a) (Stopped s) = ascii "breadth none\n"
+breadthLine (Value v a) (Refused r) = ascii "breadth none\n"
+breadthLine (Stopped s) parallel = ascii "breadth none\n"
+breadthLine (Refused r) parallel = ascii "breadth none\n"
 
 -- "The lines of the three machines show what those answered, unchanged."
 abbrev pub machineLines : Answer → Answer → Answer → List ℕ
 machineLines sequential parallel heartbeat =
     (ascii "sequential " ++ answerLine sequential)
     ++ ((ascii "parallel " ++ answerLine parallel)
-    ++ ((ascii "heartbeat " ++ answerLine heartbeat) ++ breadthLine parallel))
+    ++ ((ascii "heartbeat " ++ answerLine heartbeat) ++ breadthLine sequential parallel))
 
 -- THE REPORT of three answers. "A refusal prints one line", and it tells all three: they refuse alike (crate language, `RefusedAlike`)
 unfoldable pub reportLines : Answer → Answer → Answer → List ℕ

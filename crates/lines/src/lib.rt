@@ -8,9 +8,10 @@ use language::Stop;
 use table::Refusal;
 ghost use mathlib.Core.Path.{_≡_};
 ghost use mathlib.Core.List.{_++_};
-ghost use Prim.Native.Nat.{_+_, _/_, _≤_};
+ghost use Prim.Native.Nat.{_+_, _%_, _≤_};
 ghost use lib.ListN.{length};
-ghost use Rattle.lines.specs.Lines.{decimal, refusalLine, valueLine, stopLine, answerLine, breadthLine, reportLines};
+ghost use Rattle.language.specs.Values.{SpanPositive, WorkAtMost};
+ghost use Rattle.lines.specs.Lines.{decimal, refusalLine, valueLine, stopLine, answerLine, breadthOf, decimals, quotientLine, breadthLine, reportLines};
 ghost use Rattle.lines.specs.Buffer.{Wrote};
 
 // Writes a text from byte `at` on, and answers where it ends.
@@ -86,30 +87,63 @@ fn line(out: &mut [u8], at: usize, name: &[u8], answer: Answer) -> usize
     }
 }
 
-// Parallel work divided by parallel span, rounded down.
-fn breadth(counts: Counts) -> u64
-    ensures { λ r. ⌜ r ≡ counts .work .0 / counts .span .0 ⌝ }
+// Sequential work divided by parallel span in hundredths, rounded down, by the counts of the two runs. No value's span is 0, and no
+// sequential work is above 10^8: theorems of crate language (`spans-positive`, `sequential-work`), which the caller cites.
+fn breadth(sequential: Counts, parallel: Counts) -> u64
+    requires { ⌜ (sequential .work .0 ≤ 100000000) × (1 ≤ parallel .span .0) ⌝ }
+    ensures { λ r. ⌜ r ≡ breadthOf (sequential .work .0) (parallel .span .0) ⌝ }
 {
-    let work = counts.work;
-    let span = counts.span;
-    if span.0 == 0 { 0 } else { work.0 / span.0 }
+    let work = sequential.work;
+    let span = parallel.span;
+    work.0 * 100 / span.0
 }
 
-fn breadth_line(out: &mut [u8], at: usize, parallel: Answer) -> usize
-    requires { ⌜ (at + 29 ≤ length (now out)) ⌝ }
-    ensures wrote { λ r. ⌜ Wrote (now (out .entry)) at (breadthLine parallel) (now (out .exit)) r ⌝ }
-    ensures short { λ r. ⌜ r ≤ at + 29 ⌝ }
+// The last decimal digit of n.
+fn digit(n: u64) -> u8
+    ensures { λ r. ⌜ r ≡ 48 + n % 10 ⌝ }
 {
-    let Answer::Value(_, counts) = parallel else {
+    b'0' + (n % 10) as u8
+}
+
+// A point, and the last two digits of n.
+fn put_decimals(out: &mut [u8], at: usize, n: u64) -> usize
+    requires { ⌜ at + 3 ≤ length (now out) ⌝ }
+    ensures { λ r. ⌜ Wrote (now (out .entry)) at (decimals n) (now (out .exit)) r ⌝ }
+{
+    let tenths = digit(n / 10);
+    let hundredths = digit(n);
+    let text = [b'.', tenths, hundredths];
+    put(out, at, &text)
+}
+
+// The line of a breadth of n hundredths.
+fn quotient_line(out: &mut [u8], at: usize, n: u64) -> usize
+    requires { ⌜ at + 32 ≤ length (now out) ⌝ }
+    ensures wrote { λ r. ⌜ Wrote (now (out .entry)) at (quotientLine n) (now (out .exit)) r ⌝ }
+    ensures short { λ r. ⌜ r ≤ at + 32 ⌝ }
+{
+    let one = number(out, at, b"breadth ", n / 100);
+    let two = put_decimals(out, one, n);
+    put(out, two, b"\n")
+}
+
+fn breadth_line(out: &mut [u8], at: usize, sequential: Answer, parallel: Answer) -> usize
+    requires { ⌜ (at + 32 ≤ length (now out)) × WorkAtMost 100000000 sequential × SpanPositive parallel ⌝ }
+    ensures wrote { λ r. ⌜ Wrote (now (out .entry)) at (breadthLine sequential parallel) (now (out .exit)) r ⌝ }
+    ensures short { λ r. ⌜ r ≤ at + 32 ⌝ }
+{
+    let Answer::Value(_, a) = sequential else {
         return put(out, at, b"breadth none\n");
     };
-    let one = number(out, at, b"breadth ", breadth(counts));
-    put(out, one, b"\n")
+    if let Answer::Value(_, p) = parallel {
+        return quotient_line(out, at, breadth(a, p));
+    }
+    put(out, at, b"breadth none\n")
 }
 
 // The lines of three answers; where the input was refused, its one line.
 pub fn tell(out: &mut [u8], sequential: Answer, parallel: Answer, heartbeat: Answer) -> usize
-    requires { ⌜ 512 ≤ length (now out) ⌝ }
+    requires { ⌜ (512 ≤ length (now out)) × WorkAtMost 100000000 sequential × SpanPositive parallel ⌝ }
     ensures { λ r. ⌜ Wrote (now (out .entry)) 0 (reportLines sequential parallel heartbeat) (now (out .exit)) r ⌝ }
 {
     if let Answer::Refused(r) = sequential {
@@ -118,5 +152,5 @@ pub fn tell(out: &mut [u8], sequential: Answer, parallel: Answer, heartbeat: Ans
     let one = line(out, 0, b"sequential ", sequential);
     let two = line(out, one, b"parallel ", parallel);
     let three = line(out, two, b"heartbeat ", heartbeat);
-    breadth_line(out, three, parallel)
+    breadth_line(out, three, sequential, parallel)
 }

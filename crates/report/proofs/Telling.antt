@@ -1,6 +1,7 @@
 -- What the functions that tell a report have to show.
 --     Complete, has, lacks    an input's words, by the test of them
 --     turned-away, told       the report on words that are no job, and on a job
+--     dividable               what the breadth's division asks of the answers
 --     cramped                 a buffer without room for a report
 --     overhead-bounded        what the default N buys
 --     no-words, by-words      the report on bytes that are no words, and on bytes that are
@@ -22,6 +23,8 @@ use Rattle.language.specs.declared.Counts.{Counts}
 use Rattle.language.specs.declared.Answer.{Answer}
 use Rattle.language.specs.declared.Answer.the-variants.{Value, Stopped, Refused}
 use Rattle.schedule.specs.Machine.{sequential, parallel, heartbeat}
+use Rattle.language.specs.Values.{SpanPositive, WorkAtMost}
+use Rattle.language.proofs.Values.{spans-positive, sequential-work}
 use Rattle.language.proofs.Stops.{stops-listed}
 use Rattle.language.proofs.Claim.{claim}
 use Rattle.language.proofs.House.{house-overhead}
@@ -78,6 +81,15 @@ module _ (w ws out out′ : List ℕ) (r : ℕ) where
     wrote = rw (h, ← et, ← ea, ← ef, ← en, ← ep, ← a .sequential, ← a .parallel, ← a .heartbeat) wrote;
     workspace = rw (h, ← et, ← ea, ← ef, ← en, ← ep, ← a .sequential) (a .workspace);
   }
+
+-- No value's span is 0, and the sequential work has its bound.
+pub dividable : (table arguments : List ℕ) (fuel N τ : ℕ) (ws ws′ : List ℕ) (answers : Answers)
+    → AllThree table arguments fuel N τ ws ws′ answers
+    → WorkAtMost 100000000 (answers .sequential) × SpanPositive (answers .parallel)
+dividable table arguments fuel N τ ws ws′ answers a = (
+  λ v counts e. sequential-work table arguments fuel N τ (length ws) v counts (sym (a .sequential) ∙ e),
+  λ v counts e. spans-positive parallel table arguments fuel N τ (length ws) v counts (sym (a .parallel) ∙ e),
+)
 
 module _ (bytes ws out : List ℕ) where
   every : DemandThreeOf (jobOf (wordsOf bytes)) (length ws)

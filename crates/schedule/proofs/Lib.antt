@@ -12,6 +12,7 @@ pub mod Parallel
 pub mod Heartbeat
 pub mod WorkCount
 pub mod Demand
+pub mod Values
 pub mod Bounds
 pub mod Stopping
 pub mod Stretch

@@ -7,5 +7,6 @@ pub mod Runs
 pub mod Homomorphism
 pub mod Lockstep
 pub mod Demand
+pub mod Values
 pub mod Bounds
 pub mod Stretch

@@ -6,7 +6,7 @@ use lib.Seq.{length-take-le}
 use borrow.Author.Needs.{needs}
 use Rattle.report.specs.Input.{jobOf, pairsOf}
 use Rattle.report.proofs.Words.{length-pairs}
-use Rattle.report.proofs.Telling.{lacks, passes, has, front-of, from-on, turned-away, told}
+use Rattle.report.proofs.Telling.{lacks, passes, has, front-of, from-on, turned-away, told, dividable}
 use Rattle.report.proofs.report_words.Statement.{statement}
 use Rattle.report.proofs.report_words.Tie as tie
 
@@ -65,7 +65,7 @@ all-three-requires : tie.Need-all-three-requires
 all-three-requires c κs = search needs
 
 tell-requires : tie.Need-tell-requires
-tell-requires c κs = search needs
+tell-requires c κs = let known = dividable _ _ _ _ _ _ _ (c .before .before .before .all-three .result) (c .before .before .before .all-three .ensures) in (omega (arith, c .before .before .before .before .before .before .before .before .before .before .before .before .before .before .before .before .before .pre), known .0, known .1)
 
 same-length-2 : tie.Need-same-length-2
 same-length-2 c = search needs
