@@ -1,6 +1,6 @@
 -- The span and the work of every value.
-use Prim.Native.Nat.{ℕ, _≤_}
-use mathlib.Core.Path.{_≡_, refl, ap}
+use Prim.Native.Nat.{ℕ}
+use mathlib.Core.Path.{_≡_, refl}
 use mathlib.Core.List.{List}
 use native.Mathlib.Omega.{arith}
 use lib.ListN.{length}
@@ -15,8 +15,7 @@ use Rattle.schedule.specs.Values.{AtValue}
 use Rattle.schedule.proofs.WorkCount.{sequential-chain}
 use Rattle.schedule.proofs.Values.{at-every-value}
 use Rattle.language.specs.declared.Counts.{Counts}
-use Rattle.language.specs.declared.Answer.{Answer}
-use Rattle.language.specs.declared.Answer.the-variants.{Value, Stopped, Refused}
+use Rattle.language.specs.declared.Answer.the-variants.{Value}
 use Rattle.language.specs.Language.{language}
 use Rattle.language.specs.Checks.{framesIn, checkedOf}
 use Rattle.language.specs.Answers.{entryCode, countsOf, toldBy, afterCheck, runOf, answerOf}

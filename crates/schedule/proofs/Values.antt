@@ -5,10 +5,10 @@ use mathlib.Core.Bool.{Bool, true, true≢false}
 use mathlib.Core.List.{List, [], _∷_}
 use native.Mathlib.Omega.{arith}
 use lib.ListN.{length}
-use Rattle.schedule.specs.Graph.{Graph, span}
+use Rattle.schedule.specs.Graph.{span}
 use Rattle.schedule.specs.Algebra.{graphs}
 use Rattle.schedule.specs.FrameMachine.{FrameMachine}
-use Rattle.schedule.specs.Machine.{Slot, promotable, value, RunCounts, State, state, Schedule, start}
+use Rattle.schedule.specs.Machine.{Slot, promotable, value, State, state, Schedule, start}
 use Rattle.schedule.specs.Runs.{moves, outcome}
 use Rattle.schedule.specs.Bounds.{returning}
 use Rattle.schedule.specs.Values.{AtEveryValue}
