@@ -28,6 +28,8 @@ rows =
     ∷ record { work = 100; span = 101; line = "breadth 0.99\n" }
     ∷ record { work = 7; span = 100; line = "breadth 0.07\n" }
     ∷ record { work = 1; span = 101; line = "breadth 0.00\n" }
+    -- a span of 0, which no value has
+    ∷ record { work = 11; span = 0; line = "breadth 0.00\n" }
     ∷ []
 
 -- What the definitions write, row by row, and what the rows tell.
