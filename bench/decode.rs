@@ -1,4 +1,4 @@
-//! Reads a table: checks it (refusals 1 to 6) and decodes it in the same walk into one array of nodes with absolute positions.
+//! Reads a table: checks it (refusals 1 to 6 and 16 to 18) and decodes it in the same walk into one array of nodes with absolute positions.
 
 #[derive(Clone, Copy, PartialEq)]
 #[repr(u8)]
@@ -101,7 +101,7 @@ impl Reader<'_> {
             _ => return Err(4),
         };
         match (clear, in_bound, level <= 64) {
-            (false, _, _) => Err(4),
+            (false, _, _) => Err(16),
             (_, false, _) => Err(5),
             (_, _, false) => Err(6),
             _ => Ok((node, children)),
@@ -111,7 +111,7 @@ impl Reader<'_> {
     /// The position after the subtree, or its fault: the number and the node.
     fn walk(&self, nodes: &mut Vec<Node>, roots: &[u32], at: usize, bound: usize, level: usize) -> Result<usize, (u64, usize)> {
         if 4 * at >= self.words.len() {
-            return Err((4, at));
+            return Err((18, at));
         }
         let (mut node, children) = self.node(at, bound, level).map_err(|number| (number, at))?;
         node.root = roots[node.root as usize & 63];
@@ -130,14 +130,14 @@ impl Reader<'_> {
             return Ok(end);
         }
         if end != second {
-            return Err((4, at));
+            return Err((17, at));
         }
         if children == 2 {
             return self.walk(nodes, roots, second, bound + extra, level + 1);
         }
         let end = self.walk(nodes, roots, second, bound, level + 1)?;
         if end != third {
-            return Err((4, at));
+            return Err((17, at));
         }
         self.walk(nodes, roots, third, bound + extra, level + 1)
     }
@@ -154,7 +154,7 @@ impl Decoded {
         Decoded { nodes: Vec::with_capacity(4_000), roots: Vec::with_capacity(64) }
     }
 
-    /// Refusals 1 to 6, as number, function and node; the decoded nodes are left in `nodes`.
+    /// Refusals 1 to 6 and 16 to 18, as number, function and node; the decoded nodes are left in `nodes`.
     pub fn read(&mut self, words: &[u32]) -> Result<(), [u64; 3]> {
         let functions = *words.first().ok_or([1, 0, 0])? as usize;
         if functions < 1 || functions > 64 || words.len() < 1 + 2 * functions {
@@ -190,7 +190,7 @@ impl Decoded {
             let told = |number, node: usize| [number, f as u64, node as u64];
             let end = reader.walk(&mut self.nodes, &self.roots, 0, entry[0] as usize, 1).map_err(|(number, node)| told(number, node))?;
             if end != entry[1] as usize {
-                return Err(told(4, end));
+                return Err(told(18, end));
             }
             rest = after;
         }

@@ -2,6 +2,7 @@
 //! implementation. compare [jobs [seed]]: so many jobs from the fixed seed and from a fresh one, and the small jobs of forms; or so many
 //! from the seed given. compare forms: the small jobs alone, from the fixed seed.
 mod boundaries;
+mod faults;
 mod forms;
 mod inputs;
 mod jobs;
@@ -145,6 +146,22 @@ impl Bench {
         }
     }
 
+    /// Tables with one or two faults at one node, of each kind, so many times over; how much of that was not met.
+    fn faults(&mut self, dice: &mut Dice, reports: &Reports, times: u64) -> u64 {
+        let mut met = faults::Met::default();
+        for (kind, faults) in (0..times).flat_map(|_| faults::all()) {
+            let settings = jobs::well_formed(dice);
+            let case = faults::case(dice, kind, &faults, settings);
+            let told = self.one(dice, reports, "faults", &case.input)[0];
+            let [number, f, node] = case.wanted;
+            if told != [2, number, f, node, 0, 0, 0, 0] {
+                self.fail("faults", &case.input, format!("{faults:?} at {kind:?}: second {told:?}, wanted {:?}", case.wanted));
+            }
+            met.note(kind, &faults, &case);
+        }
+        met.too_few()
+    }
+
     fn jobs(&mut self, dice: &mut Dice, reports: &Reports, count: u64) {
         for k in 0..count {
             let (kind, j) = jobs::any(dice);
@@ -208,7 +225,7 @@ fn too_few(b: &Bench, reports: &Tally, count: u64) -> u64 {
     for kind in ["fuel exact", "fuel tight", "fuel at a stop", "frames tight", "mutated", "raw", "long", "random bytes", "short", "not served"] {
         want(format!("jobs of kind {kind}"), b.kinds.get(kind).copied().unwrap_or(0) as usize, share(60));
     }
-    for number in 1..=10 {
+    for number in (1..=10).chain(16..=18) {
         let what = format!("refused {number}");
         want(format!("reports {what}"), reports.lines.get(&what).copied().unwrap_or(0) as usize, share(20));
     }
@@ -239,6 +256,8 @@ fn round(count: u64, seed: u64) -> u64 {
     let mut b = Bench::default();
     let reports = Reports::start();
     b.jobs(&mut dice, &reports, count);
+    let mut faults = Bench::default();
+    let unmet = faults.faults(&mut dice, &reports, FAULT_TIMES);
     let reports = reports.end();
     println!("seed {seed}: {} jobs, each by three machines, {} disagreements; {} reports, {} disagreements", b.jobs, b.bad, reports.runs, reports.bad);
     println!("  kinds: {:?}", b.kinds);
@@ -248,7 +267,8 @@ fn round(count: u64, seed: u64) -> u64 {
     println!("  frames: {} numbers, from {:?} to {:?}", b.frames.len(), b.frames.first(), b.frames.last());
     println!("  lines of reports: {:?}", reports.lines);
     println!("  0 for N, by the word for tau: {:?}", reports.by_default);
-    b.bad + reports.bad + too_few(&b, &reports, count)
+    println!("  faults at one node: {} tables, {} disagreements; {:?}", faults.jobs, faults.bad, faults.answers);
+    b.bad + faults.bad + unmet + reports.bad + too_few(&b, &reports, count)
 }
 
 fn settled_runs() -> u64 {
@@ -286,6 +306,8 @@ fn settled_report() -> u64 {
 }
 
 const FIXED_SEED: u64 = 2026;
+/// How often each case of `faults` is made from one seed, each time otherwise.
+const FAULT_TIMES: u64 = 10;
 /// Random jobs of forms from one seed.
 const SMALL_JOBS: u64 = 1_000;
 

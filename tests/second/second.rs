@@ -1,4 +1,4 @@
-//! A second implementation of document 01, written from the document alone.
+//! A second implementation of document 01 with document 02's P4, written from the documents alone.
 //! Sequential: a recursive evaluator. Parallel and heartbeat: big-step
 //! judgments, one Rust call for each machine, an explicit stack in each,
 //! and a real cost graph that is priced at the end.
@@ -57,22 +57,26 @@ impl<'a> Walk<'a> {
         self.body.len() / 4
     }
 
-    /// What the node's own words are refused by: 4, then 5, then 6.
+    /// What the node's own words are refused by: 4, then 16, then 5, then 6.
     fn own(&self, [tag, a, b, c]: [u32; 4], bound: usize, level: usize) -> Option<u64> {
         let four = match tag {
+            2 => a > 6,
+            5 => a as usize >= self.arities.len(),
+            _ => tag > 6,
+        };
+        let sixteen = match tag {
             0 => c != 0,
             1 => b != 0 || c != 0,
-            2 => a > 6 || c != 0,
+            2 => c != 0,
             3 => a != 0,
             4 => a != 0 || c != 0,
             5 => match self.arities.get(a as usize) {
-                None => true,
                 Some(0) | Some(1) => b != 0 || c != 0,
                 Some(2) => c != 0,
-                Some(_) => false,
+                _ => false,
             },
             6 => a != 0,
-            _ => true,
+            _ => false,
         };
         let five = match tag {
             1 => a as usize >= bound,
@@ -82,6 +86,9 @@ impl<'a> Walk<'a> {
         };
         if four {
             return Some(4);
+        }
+        if sixteen {
+            return Some(16);
         }
         if five {
             return Some(5);
@@ -105,7 +112,7 @@ impl<'a> Walk<'a> {
     fn subtree(&self, at: usize, bound: usize, level: usize) -> Result<(Node, usize), Refusal> {
         let f = self.function;
         if at >= self.nodes() {
-            return refuse(4, f, self.nodes());
+            return refuse(18, f, self.nodes());
         }
         let w: [u32; 4] = self.body[4 * at..4 * at + 4].try_into().unwrap();
         let [tag, a, b, c] = w;
@@ -116,7 +123,7 @@ impl<'a> Walk<'a> {
         let mut next = at + 1;
         for (i, scope) in self.scopes(tag, a, bound).iter().enumerate() {
             if i == 1 && b as usize != next || i == 2 && c as usize != next {
-                return refuse(4, f, at);
+                return refuse(17, f, at);
             }
             let (child, after) = self.subtree(next, *scope, level + 1)?;
             children.push(child);
@@ -169,7 +176,7 @@ pub fn read(table: &[u32]) -> Result<Job, Refusal> {
         let walk = Walk { function: f, arities: &arities, body };
         let (tree, after) = walk.subtree(0, arity as usize, 1)?;
         if after != count as usize {
-            return refuse(4, f, after);
+            return refuse(18, f, after);
         }
         bodies.push(tree);
     }

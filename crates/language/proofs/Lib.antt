@@ -1,6 +1,7 @@
 -- The proofs of what specs/ states. Another crate cites them so: `use Rattle.language.proofs.Claim.{claim}`.
 pub mod Places
 pub mod Admission
+pub mod Unchanged
 pub mod Told
 pub mod Stops
 pub mod Claim

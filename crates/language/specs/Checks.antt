@@ -1,4 +1,4 @@
--- The check of a machine's input (01, "Turned away by the input", 1 to 11). "All three machines check all eleven."
+-- The check of a machine's input (01, "Turned away by the input", 1 to 11; 02, P4, 16 to 18). "All three machines check all eleven."
 use Prim.Native.Nat.{ℕ, _/_, _%_}
 use mathlib.Core.List.{List}
 use mathlib.Core.Bool.{_&&_}
@@ -39,6 +39,7 @@ workspaceOf workspace = unless (eqb (workspace % 32) 0) 11 0 0 then rangeOf (fra
 unfoldable pub settingsOf : ℕ → ℕ → ℕ → ℕ → Reading
 settingsOf fuel N τ workspace = fuelOf fuel then periodOf N then tauOf τ then workspaceOf workspace
 
--- THE CHECK, of a table, the number of arguments, fuel, N, τ and the workspace's length: "Numbers are tried in rising order"
+-- THE CHECK, of a table, the number of arguments, fuel, N, τ and the workspace's length: "Numbers are tried in rising order"; the walk,
+-- "with 16, 17 and 18 now in it and so before 7" (P4)
 unfoldable pub checkedOf : List ℕ → ℕ → ℕ → ℕ → ℕ → ℕ → Reading
 checkedOf w arguments fuel N τ workspace = readOf w then argumentsOf w arguments then settingsOf fuel N τ workspace

@@ -1,4 +1,5 @@
--- The refusals, 1 to 11: inputs worked by hand from document 01, "Turned away by the input". Proved in proofs/Settled.antt, `refusals-worked`.
+-- The refusals, 1 to 11 and 16 to 18: inputs worked by hand from document 01, "Turned away by the input", and from P4 of document 02. Proved
+-- in proofs/Settled.antt, `refusals-worked`.
 use Prim.Native.Nat.{ℕ, zero, suc}
 use mathlib.Core.Path.{_≡_}
 use mathlib.Core.List.{List, [], _∷_}
@@ -14,10 +15,10 @@ refusedAt number function node = Refused (record { number = number; function = f
 abbrev refused : ℕ → Answer
 refused number = refusedAt number 0 0
 
--- so many lets, each the first child of the one before, and a constant: where the walk comes to it no second child has been looked for
-unfoldable pub lets : ℕ → List ℕ
-lets zero = 0 ∷ 0 ∷ 0 ∷ 0 ∷ []
-lets (suc n) = 4 ∷ 0 ∷ 0 ∷ 0 ∷ lets n
+-- so many lets, each the first child of the one before, and what follows: where the walk comes to it no second child has been looked for
+unfoldable pub lets : ℕ → List ℕ → List ℕ
+lets zero rest = rest
+lets (suc n) rest = 4 ∷ 0 ∷ 0 ∷ 0 ∷ lets n rest
 
 -- one function, of arity 0, with so many nodes
 abbrev function : ℕ → List ℕ → List ℕ
@@ -42,23 +43,44 @@ refusalExamples =
     -- "Length not exact."
     ∷ at-fault (1 ∷ 0 ∷ 4000 ∷ []) (refused 3)
     ∷ at-fault (function 1 (0 ∷ 0 ∷ 0 ∷ 0 ∷ 0 ∷ [])) (refused 3)
-    -- "Unknown tag, operation or function; an unused word not 0"
+    -- "Number 4 is left for an unknown tag, operation or function"
     ∷ at-fault (function 3 (2 ∷ 0 ∷ 2 ∷ 0 ∷ 0 ∷ 1 ∷ 0 ∷ 0 ∷ 7 ∷ 0 ∷ 0 ∷ 0 ∷ [])) (refusedAt 4 0 2)
     ∷ at-fault (function 3 (2 ∷ 7 ∷ 2 ∷ 0 ∷ 0 ∷ 1 ∷ 0 ∷ 0 ∷ 0 ∷ 1 ∷ 0 ∷ 0 ∷ [])) (refusedAt 4 0 0)
     ∷ at-fault (function 1 (5 ∷ 1 ∷ 0 ∷ 0 ∷ [])) (refusedAt 4 0 0)
-    ∷ at-fault (function 1 (0 ∷ 0 ∷ 0 ∷ 1 ∷ [])) (refusedAt 4 0 0)
-    -- "a child position that is wrong (told at the parent)"; a fault in the child before it is met first
-    ∷ at-fault (function 3 (2 ∷ 0 ∷ 1 ∷ 0 ∷ 0 ∷ 1 ∷ 0 ∷ 0 ∷ 0 ∷ 1 ∷ 0 ∷ 0 ∷ [])) (refusedAt 4 0 0)
+    -- "16, an unused word that is not 0": at a constant, a local, an arithmetic, a choose, a let, a call and a both
+    ∷ at-fault (function 1 (0 ∷ 0 ∷ 0 ∷ 1 ∷ [])) (refusedAt 16 0 0)
+    ∷ at-fault (1 ∷ 1 ∷ 1 ∷ 1 ∷ 0 ∷ 1 ∷ 0 ∷ []) (refusedAt 16 0 0)
+    ∷ at-fault (function 3 (2 ∷ 0 ∷ 2 ∷ 1 ∷ 0 ∷ 1 ∷ 0 ∷ 0 ∷ 0 ∷ 1 ∷ 0 ∷ 0 ∷ [])) (refusedAt 16 0 0)
+    ∷ at-fault (function 2 (3 ∷ 1 ∷ 2 ∷ 3 ∷ 0 ∷ 1 ∷ 0 ∷ 0 ∷ [])) (refusedAt 16 0 0)
+    ∷ at-fault (function 2 (4 ∷ 0 ∷ 2 ∷ 1 ∷ 0 ∷ 1 ∷ 0 ∷ 0 ∷ [])) (refusedAt 16 0 0)
+    ∷ at-fault (1 ∷ 2 ∷ 3 ∷ 5 ∷ 0 ∷ 2 ∷ 1 ∷ 1 ∷ 0 ∷ 0 ∷ 0 ∷ 1 ∷ 1 ∷ 0 ∷ 0 ∷ []) (refusedAt 16 0 0)
+    ∷ at-fault (function 2 (6 ∷ 1 ∷ 2 ∷ 3 ∷ 0 ∷ 1 ∷ 0 ∷ 0 ∷ [])) (refusedAt 16 0 0)
+    -- "17, a wrong child position", "found when b or c is compared" and told at the parent; a fault in the child before it is met first
+    ∷ at-fault (function 3 (2 ∷ 0 ∷ 1 ∷ 0 ∷ 0 ∷ 1 ∷ 0 ∷ 0 ∷ 0 ∷ 1 ∷ 0 ∷ 0 ∷ [])) (refusedAt 17 0 0)
     ∷ at-fault (function 3 (2 ∷ 0 ∷ 1 ∷ 0 ∷ 1 ∷ 0 ∷ 0 ∷ 0 ∷ 0 ∷ 1 ∷ 0 ∷ 0 ∷ [])) (refusedAt 5 0 1)
-    -- "a body that ends early or runs on (told at that position)"
-    ∷ at-fault (function 1 (2 ∷ 0 ∷ 2 ∷ 0 ∷ [])) (refusedAt 4 0 1)
-    ∷ at-fault (function 2 (0 ∷ 1 ∷ 0 ∷ 0 ∷ 0 ∷ 1 ∷ 0 ∷ 0 ∷ [])) (refusedAt 4 0 1)
-    -- "A slot not bound"; "at the same place the lowest number"; the second child of a let has one more
+    ∷ at-fault (function 4 (3 ∷ 0 ∷ 2 ∷ 4 ∷ 0 ∷ 1 ∷ 0 ∷ 0 ∷ 0 ∷ 1 ∷ 0 ∷ 0 ∷ 0 ∷ 1 ∷ 0 ∷ 0 ∷ [])) (refusedAt 17 0 0)
+    -- "18, a body that ends early or runs on", told at that position; a wrong position is found before the child that is not there, and before
+    -- "the running on after the root"
+    ∷ at-fault (function 1 (2 ∷ 0 ∷ 2 ∷ 0 ∷ [])) (refusedAt 18 0 1)
+    ∷ at-fault (function 2 (0 ∷ 1 ∷ 0 ∷ 0 ∷ 0 ∷ 1 ∷ 0 ∷ 0 ∷ [])) (refusedAt 18 0 1)
+    ∷ at-fault (function 2 (2 ∷ 0 ∷ 5 ∷ 0 ∷ 0 ∷ 1 ∷ 0 ∷ 0 ∷ [])) (refusedAt 17 0 0)
+    ∷ at-fault (function 4 (2 ∷ 0 ∷ 3 ∷ 0 ∷ 0 ∷ 1 ∷ 0 ∷ 0 ∷ 0 ∷ 1 ∷ 0 ∷ 0 ∷ 0 ∷ 1 ∷ 0 ∷ 0 ∷ [])) (refusedAt 17 0 0)
+    -- "A slot not bound"; the second child of a let has one more
     ∷ at-fault (function 1 (1 ∷ 0 ∷ 0 ∷ 0 ∷ [])) (refusedAt 5 0 0)
-    ∷ at-fault (function 1 (1 ∷ 0 ∷ 1 ∷ 0 ∷ [])) (refusedAt 4 0 0)
     ∷ at-fault (function 3 (4 ∷ 0 ∷ 2 ∷ 0 ∷ 0 ∷ 1 ∷ 0 ∷ 0 ∷ 1 ∷ 1 ∷ 0 ∷ 0 ∷ [])) (refusedAt 5 0 2)
     -- "Level above 64.": the lets are levels 1 to 64
-    ∷ at-fault (function 65 (lets 64)) (refusedAt 6 0 64)
+    ∷ at-fault (function 65 (lets 64 (0 ∷ 0 ∷ 0 ∷ 0 ∷ []))) (refusedAt 6 0 64)
+    -- "At a node an early end is found first, then 4, 16, 5 and 6": where the body ends another's unknown tag stands, or level 65 begins
+    ∷ at-fault (2 ∷ 0 ∷ 1 ∷ 0 ∷ 1 ∷ 2 ∷ 0 ∷ 2 ∷ 0 ∷ 7 ∷ 0 ∷ 0 ∷ 0 ∷ []) (refusedAt 18 0 1)
+    ∷ at-fault (function 64 (lets 64 [])) (refusedAt 18 0 64)
+    -- 4 before 16: the unused c of an arithmetic whose operation is unknown, and the words of a call of no function, which it hides
+    ∷ at-fault (function 3 (2 ∷ 7 ∷ 2 ∷ 1 ∷ 0 ∷ 1 ∷ 0 ∷ 0 ∷ 0 ∷ 1 ∷ 0 ∷ 0 ∷ [])) (refusedAt 4 0 0)
+    ∷ at-fault (function 1 (5 ∷ 1 ∷ 1 ∷ 1 ∷ [])) (refusedAt 4 0 0)
+    -- 16 before 5, and 4, 16 and 5 before 6
+    ∷ at-fault (function 1 (1 ∷ 0 ∷ 1 ∷ 0 ∷ [])) (refusedAt 16 0 0)
+    ∷ at-fault (function 65 (lets 64 (7 ∷ 0 ∷ 0 ∷ 0 ∷ []))) (refusedAt 4 0 64)
+    ∷ at-fault (function 65 (lets 64 (0 ∷ 0 ∷ 0 ∷ 1 ∷ []))) (refusedAt 16 0 64)
+    ∷ at-fault (function 65 (lets 64 (1 ∷ 0 ∷ 0 ∷ 0 ∷ []))) (refusedAt 5 0 64)
     -- 7 to 11, each with the faults of the higher numbers
     ∷ at-fault tableA (refused 7)
     ∷ row sequentialOf tableA [] 0 0 0 0 (refused 8)

@@ -3,6 +3,7 @@
 pub mod Language
 pub mod Places
 pub mod Checks
+pub mod Unchanged
 pub mod Admitted
 pub mod Answers
 pub mod Stops

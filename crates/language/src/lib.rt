@@ -1,7 +1,7 @@
 // The answers of the three machines, their settings, and the check of their input.
 //
-// `checked` tries document 01's refusals 1 to 11 in its order. Here are the types that a machine takes and gives; the language and what
-// a machine answers are the definitions of specs/.
+// `checked` tries document 01's refusals 1 to 11, and document 02's 16 to 18, in their order. Here are the types that a machine takes and
+// gives; the language and what a machine answers are the definitions of specs/.
 
 use schedule::Fuel;
 use schedule::Span;
@@ -121,8 +121,8 @@ fn settings_checked(settings: Settings, workspace: usize) -> Reading
     workspace_checked(workspace)
 }
 
-// Accepted, or refused with its number, function and node: 01's refusals 1 to 11, for any input. `arguments` and `workspace` are
-// lengths.
+// Accepted, or refused with its number, function and node: 01's refusals 1 to 11 and 02's 16 to 18, for any input. `arguments` and
+// `workspace` are lengths.
 pub fn checked(words: &[u32], arguments: usize, settings: Settings, workspace: usize) -> Reading
     ensures answer { λ r. ⌜ r ≡ checkedOf (now (words .entry)) arguments (settings .fuel .0) (settings .period) (settings .tau) workspace ⌝ }
     ensures assures { λ r. ⌜ ((r ≡ Reading.Accepted) ↔ Admitted (now (words .entry)) arguments (settings .fuel .0) (settings .period) (settings .tau) workspace) ⌝ }

@@ -56,7 +56,7 @@ module _ (w : List ℕ) where
 
   root-iff : (n f : ℕ) (r : Walked) → (rootOf n f r ≡ Accepted) ↔ (r ≡ End n)
   unfolding rootOf
-  root-iff n f (End q) = ((λ e. ap End (eqb-true _ _ (unless-iff _ 4 f q .0 e))), (λ e. let x : q ≡ n = cc in unless-iff _ 4 f q .1 (eq-eqb _ _ x)))
+  root-iff n f (End q) = ((λ e. ap End (eqb-true _ _ (unless-iff _ 18 f q .0 e))), (λ e. let x : q ≡ n = cc in unless-iff _ 18 f q .1 (eq-eqb _ _ x)))
   root-iff n f (Fault i q) = ((λ e. let z : _≡_ {A = ℕ} 0 1 = cc in absurd (omega arith)), (λ e. let z : _≡_ {A = ℕ} 0 1 = cc in absurd (omega arith)))
 
   pub body-iff : (f : ℕ) → (bodyRead w f ≡ Accepted) ↔ Subtree w (bodyAt w f) 1 0 (arityAt w f) (nodesAt w f)

@@ -8,3 +8,4 @@ pub mod Trees
 pub mod Views
 pub mod Acceptance
 pub mod Filling
+pub mod Unchanged

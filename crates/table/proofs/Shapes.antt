@@ -1,11 +1,11 @@
 -- What a node's own words assure where no number refuses them.
-use Prim.Native.Nat.{ℕ, _≤_}
+use Prim.Native.Nat.{ℕ, _<_, _≤_}
 use mathlib.Core.Path.{_≡_, refl}
 use mathlib.Core.List.{List}
 use mathlib.Core.Bool.{Bool, true, false, cond}
 use native.Mathlib.Omega.{arith}
 use lib.Dec.{leb, ltb}
-use borrow.Author.Tests.{leb-true}
+use borrow.Author.Tests.{le-leb, lt-leb, leb-true}
 use Rattle.table.specs.declared.Node.{Node}
 use Rattle.table.specs.declared.Node.the-variants.{Constant, Local, Arithmetic, Choose, Let, Call, Both, Unknown}
 use Rattle.table.specs.declared.Shape.{Shape}
@@ -22,12 +22,29 @@ pub record Sound (s : Shape) (level : ℕ) : Type 0 where
 pub sound : (s : Shape) (level : ℕ) → numberOf s level ≡ 0 → Sound s level
 sound s level e = at (s .known) (s .clear) (s .bound) (leb level 64) refl refl refl refl e
   where
-    at : (x y z l : Bool) → s .known ≡ x → s .clear ≡ y → s .bound ≡ z → leb level 64 ≡ l → _≡_ {A = ℕ} (cond x (cond y (cond z (cond l 0 6) 5) 4) 4) 0 → Sound s level
+    at : (x y z l : Bool) → s .known ≡ x → s .clear ≡ y → s .bound ≡ z → leb level 64 ≡ l → _≡_ {A = ℕ} (cond x (cond y (cond z (cond l 0 6) 5) 16) 4) 0 → Sound s level
     at true true true true p q r t e = record { known = p; clear = q; bound = r; low = leb-true _ _ t }
     at true true true false p q r t e = absurd (omega arith)
     at true true false l p q r t e = absurd (omega arith)
     at true false z l p q r t e = absurd (omega arith)
     at false y z l p q r t e = absurd (omega arith)
+
+-- the number by what is looked at, in order
+module _ (s : Shape) (level : ℕ) where
+  pub number-unknown : s .known ≡ false → 4 ≡ numberOf s level
+  number-unknown k = rw k
+
+  pub number-unused : s .known ≡ true → s .clear ≡ false → 16 ≡ numberOf s level
+  number-unused k c = rw (k, c)
+
+  pub number-unbound : s .known ≡ true → s .clear ≡ true → s .bound ≡ false → 5 ≡ numberOf s level
+  number-unbound k c b = rw (k, c, b)
+
+  pub number-deep : s .known ≡ true → s .clear ≡ true → s .bound ≡ true → 64 < level → 6 ≡ numberOf s level
+  number-deep k c b l = rw (k, c, b, lt-leb level 64 l)
+
+  pub number-none : s .known ≡ true → s .clear ≡ true → s .bound ≡ true → level ≤ 64 → 0 ≡ numberOf s level
+  number-none k c b l = rw (k, c, b, le-leb level 64 l)
 
 -- what a node binds stays within 16 locals
 module _ (w : List ℕ) (a b c k : ℕ) (few : k ≤ 16) where

@@ -24,7 +24,7 @@ unfolding next
 next-end b p (Fault i x) rest q e = let z : _≡_ {A = ℕ} 0 1 = cc in absurd (omega arith)
 next-end b p (End m) rest q e = at (eqb b m) refl e
   where
-    at : (t : Bool) → eqb b m ≡ t → cond t rest (Fault 4 p) ≡ End q → (End m ≡ End b) × (rest ≡ End q)
+    at : (t : Bool) → eqb b m ≡ t → cond t rest (Fault 17 p) ≡ End q → (End m ≡ End b) × (rest ≡ End q)
     at true l e = (ap End (sym (eqb-true _ _ l)), e)
     at false l e = let z : _≡_ {A = ℕ} 0 1 = cc in absurd (omega arith)
 
@@ -69,11 +69,11 @@ module _ (w : List ℕ) (body : Body) where
   pub tree-of : (bound level p k q : ℕ) → walkOf bound w body level p k ≡ End q → Subtree w body level p k q
   unfolding walkOf
   tree-of zero level p k q e = let z : _≡_ {A = ℕ} 0 1 = cc in absurd (omega arith)
-  tree-of (suc bound) level p k q e = at (tree-of bound) (leb (body .nodes) p) refl e
+  tree-of (suc bound) level p k q e = at (tree-of bound) _ (leb (body .nodes) p) refl e
     where
       at : ((level p k q : ℕ) → walkOf bound w body level p k ≡ End q → Subtree w body level p k q)
-          → (t : Bool) → leb (body .nodes) p ≡ t
-          → cond t (Fault 4 p) (own (numberOf (shapeAt w (body .start) p k) level) p (children (walkOf bound w body (level + 1)) (bAt w (body .start) p) (cAt w (body .start) p) p k (shapeAt w (body .start) p k .last) (shapeAt w (body .start) p k .children))) ≡ End q
+          → (n : ℕ) (t : Bool) → leb (body .nodes) p ≡ t
+          → cond t (Fault n p) (own (numberOf (shapeAt w (body .start) p k) level) p (children (walkOf bound w body (level + 1)) (bAt w (body .start) p) (cAt w (body .start) p) p k (shapeAt w (body .start) p k .last) (shapeAt w (body .start) p k .children))) ≡ End q
           → Subtree w body level p k q
-      at ih true l e = let z : _≡_ {A = ℕ} 0 1 = cc in absurd (omega arith)
-      at ih false l e = let o = own-end _ p _ q e in root (leb-false _ _ l) (o .0) (children-of bound ih (level + 1) p k _ _ _ q _ (o .1))
+      at ih n true l e = let z : _≡_ {A = ℕ} 0 1 = cc in absurd (omega arith)
+      at ih n false l e = let o = own-end _ p _ q e in root (leb-false _ _ l) (o .0) (children-of bound ih (level + 1) p k _ _ _ q _ (o .1))

@@ -30,11 +30,11 @@ told zero p rest h = absurd (omega arith)
 told (suc n) p rest h = refl
 
 module _ (w : List ℕ) (body : Body) (level p k : ℕ) where
-  pub walks-end : body .nodes ≤ p → Walks w body level p k (Fault 4 p)
+  pub walks-end : body .nodes ≤ p → Walks w body level p k (Fault 18 p)
   unfolding walkOf
   walks-end h = record { same = go; moves = λ q e. let z : _≡_ {A = ℕ} 0 1 = cc in omega arith }
     where
-      go : (bound : ℕ) → body .nodes ≤ p + bound → Fault 4 p ≡ walkOf bound w body level p k
+      go : (bound : ℕ) → body .nodes ≤ p + bound → Fault 18 p ≡ walkOf bound w body level p k
       go zero g = refl
       go (suc bound) g = rw (le-leb _ _ h)
 
@@ -77,7 +77,7 @@ module _ (w : List ℕ) (body : Body) (level p k : ℕ) where
           }
 
           module _ (b m : ℕ) (d : b ≡ bAt w (body .start) p) (u : first ≡ End m) where
-            pub walks-b : (b ≡ m → ⊥) → Walks w body level p k (Fault 4 p)
+            pub walks-b : (b ≡ m → ⊥) → Walks w body level p k (Fault 17 p)
             unfolding children next
             walks-b v = let j = two-more _ n0 n1 in record {
               same = within (λ bound g. rw (j .1, ← f .same bound g, u, ← d, ne-eqb _ _ v));
@@ -104,7 +104,7 @@ module _ (w : List ℕ) (body : Body) (level p k : ℕ) where
                 }
 
                 module _ (c o : ℕ) (t : c ≡ cAt w (body .start) p) (ends : second ≡ End o) where
-                  pub walks-c : (c ≡ o → ⊥) → Walks w body level p k (Fault 4 p)
+                  pub walks-c : (c ≡ o → ⊥) → Walks w body level p k (Fault 17 p)
                   unfolding children next afterFirst
                   walks-c y = let j = three-more _ n0 n1 n2 in record {
                     same = within (λ bound l. rw (j .1, ← f .same bound l, u, ← d, eq-eqb _ _ v, ← g .same bound (omega (arith, f .moves m u)), ends, ← t, ne-eqb _ _ y));

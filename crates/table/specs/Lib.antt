@@ -4,3 +4,4 @@ pub mod Nodes
 pub mod Walk
 pub mod Read
 pub mod WellFormed
+pub mod Before

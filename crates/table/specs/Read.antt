@@ -1,4 +1,4 @@
--- The reader's answer (01, "Turned away by the input", 1 to 6).
+-- The reader's answer (01, "Turned away by the input", 1 to 6; 02, P4, 16 to 18).
 use Prim.Native.Nat.{ℕ, zero, suc, _+_, _*_}
 use mathlib.Core.List.{List, [], _∷_}
 use mathlib.Core.Bool.{Bool, cond, _&&_}
@@ -43,9 +43,10 @@ entry w f = unless (entryTest w f) 2 f 0
 unfoldable pub exact : List ℕ → Reading
 exact w = unless (eqb (length w) (startOf w (functions w))) 3 0 0
 
--- the walk of f's root, at level 1 with the arguments bound; "a body that runs on" is told at the position where its tree ends
+-- the walk of f's root, at level 1 with the arguments bound. P4: "the running on after the root", with 18; it is told at the position
+-- where the root's tree ends
 unfoldable pub rootOf : ℕ → ℕ → Walked → Reading
-rootOf nodes f (End q) = unless (eqb q nodes) 4 f q
+rootOf nodes f (End q) = unless (eqb q nodes) 18 f q
 rootOf nodes f (Fault number q) = refused number f q
 
 unfoldable pub bodyRead : List ℕ → ℕ → Reading
@@ -62,7 +63,7 @@ contents w = each (entry w) (functions w) 0 then exact w
 unfoldable pub bodies : List ℕ → Reading
 bodies w = each (bodyRead w) (functions w) 0
 
--- "Numbers are tried in rising order, except that 4, 5 and 6 belong to one walk"
+-- "Numbers are tried in rising order, except that 4, 5 and 6 belong to one walk" (01), "with 16, 17 and 18 now in it" (P4)
 unfoldable pub readOf : List ℕ → Reading
 readOf w = header w then contents w then bodies w
 

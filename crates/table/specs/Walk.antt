@@ -1,4 +1,4 @@
--- The walk of a body (01, "The job table", its last paragraph), with the refusals 4, 5 and 6.
+-- The walk of a body (01, "The job table", its last paragraph), with the refusals 4, 5 and 6 and those of 02's P4: 16, 17 and 18.
 use Prim.Native.Nat.{ℕ, zero, suc, _+_, _*_, _<_, _≤_}
 use mathlib.Core.Path.{_≡_}
 use mathlib.Core.List.{List, [], _∷_}
@@ -51,14 +51,14 @@ shapeOf w a b c k Unknown = unknown k
 abbrev pub shapeAt : List ℕ → ℕ → ℕ → ℕ → Shape
 shapeAt w s p k = shapeOf w (aAt w s p) (bAt w s p) (cAt w s p) k (nodeAt w s p)
 
--- "at the same place the lowest number": 4, then 5, then "6. Level above 64"; 0 where none is refused
+-- P4: at a node "4, 16, 5 and 6", where 16 is "an unused word that is not 0" and 6 is 01's "Level above 64"; 0 where none is refused
 abbrev pub numberOf : Shape → ℕ → ℕ
-numberOf s level = cond (s .known) (cond (s .clear) (cond (s .bound) (cond (leb level 64) 0 6) 5) 4) 4
+numberOf s level = cond (s .known) (cond (s .clear) (cond (s .bound) (cond (leb level 64) 0 6) 5) 16) 4
 
 -- after a child of the node at p: its end is the position b that the node gives for its next child, or the walk ends there with
--- "a child position that is wrong (told at the parent)"; a fault in the child is told as it is
+-- "17, a wrong child position" (P4), "told at the parent" (01); a fault in the child is told as it is
 unfoldable pub next : ℕ → ℕ → Walked → Walked → Walked
-next b p (End m) rest = cond (eqb b m) rest (Fault 4 p)
+next b p (End m) rest = cond (eqb b m) rest (Fault 17 p)
 next b p (Fault number q) rest = Fault number q
 
 -- "first child; b compared; second child; c compared; third child", where `sub` walks the subtree at a position with a number of
@@ -79,12 +79,13 @@ own zero p rest = rest
 own (suc n) p rest = Fault (suc n) p
 
 -- "The walk goes from a node into its children and returns the position after the subtree": of the subtree at p, with k locals
--- bound, at a level. "A body that ends early" is told at the position after its last node. `bound` bounds the nodes that remain.
+-- bound, at a level. P4: "an early end is found first", with 18, "a body that ends early or runs on"; it is told at the position
+-- after its last node. `bound` bounds the nodes that remain.
 unfoldable pub walkOf : ℕ → List ℕ → Body → ℕ → ℕ → ℕ → Walked
-walkOf zero w body level p k = Fault 4 p
+walkOf zero w body level p k = Fault 18 p
 walkOf (suc bound) w body level p k =
     cond (leb (body .nodes) p)
-    (Fault 4 p)
+    (Fault 18 p)
     (own (numberOf (shapeAt w (body .start) p k) level) p
     (children (walkOf bound w body (level + 1)) (bAt w (body .start) p) (cAt w (body .start) p) p k (shapeAt w (body .start) p k .last) (shapeAt w (body .start) p k .children)))
 

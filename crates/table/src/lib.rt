@@ -1,7 +1,7 @@
 // The job table of document 01: the reader, and what a machine reads of an accepted table.
 //
-// `read` tries the refusals 1 to 3 on the contents, then walks the bodies for 4, 5 and 6. The rest of the public functions read
-// an accepted table, each in constant time but `starts`, which a run calls once.
+// `read` tries the refusals 1 to 3 on the contents, then walks the bodies for 4, 5, 6, 16, 17 and 18. The rest of the public
+// functions read an accepted table, each in constant time but `starts`, which a run calls once.
 
 ghost use mathlib.Core.Path.{_≡_};
 ghost use mathlib.Core.Bool.{_&&_};
@@ -255,7 +255,7 @@ fn shape_at(words: &[u32], start: usize, p: usize, k: usize) -> Shape
     shape_of(words, node, a, b, c, k)
 }
 
-// The lowest number that a node's own words and its level are refused by, or 0.
+// The number that a node's own words and its level are refused by, the first of 4, 16, 5 and 6; or 0.
 fn number(shape: Shape, level: usize) -> u32
     ensures { λ r. ⌜ r ≡ numberOf shape level ⌝ }
 {
@@ -263,7 +263,7 @@ fn number(shape: Shape, level: usize) -> u32
         return 4;
     }
     if !shape.clear {
-        return 4;
+        return 16;
     }
     if !shape.bound {
         return 5;
@@ -278,7 +278,7 @@ fn walk(words: &[u32], body: Body, level: usize, p: usize, k: usize) -> Walked
 {
     let start = body.start;
     if body.nodes <= p {
-        return Walked::Fault(4, p);
+        return Walked::Fault(18, p);
     }
     let shape = shape_at(words, start, p, k);
     let refused = number(shape, level);
@@ -286,10 +286,11 @@ fn walk(words: &[u32], body: Body, level: usize, p: usize, k: usize) -> Walked
         return Walked::Fault(refused, p);
     }
     let children = shape.children;
+    let after = p + 1;
     if children == 0 {
-        return Walked::End(p + 1);
+        return Walked::End(after);
     }
-    let first = walk(words, body, level + 1, p + 1, k);
+    let first = walk(words, body, level + 1, after, k);
     if children == 1 {
         return first;
     }
@@ -298,7 +299,7 @@ fn walk(words: &[u32], body: Body, level: usize, p: usize, k: usize) -> Walked
     };
     let b = second(words, start, p);
     if b != m {
-        return Walked::Fault(4, p);
+        return Walked::Fault(17, p);
     }
     if children == 2 {
         return walk(words, body, level + 1, b, shape.last);
@@ -309,7 +310,7 @@ fn walk(words: &[u32], body: Body, level: usize, p: usize, k: usize) -> Walked
     };
     let c = third(words, start, p);
     if c != n {
-        return Walked::Fault(4, p);
+        return Walked::Fault(17, p);
     }
     walk(words, body, level + 1, c, shape.last)
 }
@@ -391,7 +392,7 @@ fn contents_read(words: &[u32]) -> Reading
     Reading::Accepted
 }
 
-// Refusals 4, 5 and 6 for the body of function f, which starts at a word.
+// Refusals 4, 5, 6, 16, 17 and 18 for the body of function f, which starts at a word.
 fn body_read(words: &[u32], f: usize, start: usize) -> Reading
     requires { ⌜ Located (now words) f start ⌝ }
     ensures { λ r. ⌜ r ≡ bodyRead (now (words .entry)) f ⌝ }
@@ -403,14 +404,14 @@ fn body_read(words: &[u32], f: usize, start: usize) -> Reading
             if q == n {
                 Reading::Accepted
             } else {
-                refuse(4, f, q)
+                refuse(18, f, q)
             }
         }
         Walked::Fault(number, q) => refuse(number, f, q),
     }
 }
 
-// Refusals 4, 5 and 6: the walk takes the functions in order.
+// The same for all bodies: the walk takes the functions in order.
 fn bodies_read(words: &[u32]) -> Reading
     requires { ⌜ Contents (now words) ⌝ }
     ensures { λ r. ⌜ r ≡ bodies (now (words .entry)) ⌝ }
@@ -429,7 +430,7 @@ fn bodies_read(words: &[u32]) -> Reading
     Reading::Accepted
 }
 
-// Accepted, or refused with its number, function and node: 01's refusals 1 to 6, for any words.
+// Accepted, or refused with its number, function and node: 01's refusals 1 to 6 and 02's 16 to 18, for any words.
 pub fn read(words: &[u32]) -> Reading
     ensures answer { λ r. ⌜ r ≡ readOf (now (words .entry)) ⌝ }
     ensures assures { λ r. ⌜ ((r ≡ Reading.Accepted) ↔ WellFormed (now (words .entry))) ⌝ }

@@ -1,5 +1,5 @@
 // Reads a job table a line from standard input, a label up to a colon and then the words in decimal, and writes the label with what
-// the reader answers. The answers in the file stdout were worked out from document 01.
+// the reader answers. The answers in the file stdout were worked out from documents 01 and 02.
 
 use table::Reading;
 ghost use mathlib.Core.Path.{_≡_};

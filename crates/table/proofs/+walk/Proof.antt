@@ -80,7 +80,7 @@ walk-returns-2 : (t : ℕ) → walk-lts.Need-returns-2 (
 ) (walk-at t) walk.Post
 walk-returns-2 t c = walks-own _ _ _ _ _ (c .before .before .before .if1 .left) _ (c .before .before .shape-at .ensures) _ (c .before .number .ensures) (c .if2 .taken)
 
-walk-add-t17 : (t : ℕ) → walk-lts.Need-add-t17 (
+walk-add-after : (t : ℕ) → walk-lts.Need-add-after (
   shape-at-reads.Asked,
   shape-at-reads.Learnt,
   number-reads.Asked,
@@ -92,7 +92,7 @@ walk-add-t17 : (t : ℕ) → walk-lts.Need-add-t17 (
   third-reads.Asked,
   third-reads.Learnt,
 ) (walk-at t) walk.Post
-walk-add-t17 t c = search needs
+walk-add-after t c = search needs
 
 walk-returns-3 : (t : ℕ) → walk-lts.Need-returns-3 (
   shape-at-reads.Asked,
@@ -121,20 +121,6 @@ walk-add-walk : (t : ℕ) → walk-lts.Need-add-walk (
   third-reads.Learnt,
 ) (walk-at t) walk.Post
 walk-add-walk t c = search needs
-
-walk-add-walk-2 : (t : ℕ) → walk-lts.Need-add-walk-2 (
-  shape-at-reads.Asked,
-  shape-at-reads.Learnt,
-  number-reads.Asked,
-  number-reads.Learnt,
-  walk-below t,
-  walk.Post,
-  second-reads.Asked,
-  second-reads.Learnt,
-  third-reads.Asked,
-  third-reads.Learnt,
-) (walk-at t) walk.Post
-walk-add-walk-2 t c = search needs
 
 walk-walk-requires : (t : ℕ) → walk-lts.Need-walk-requires (
   shape-at-reads.Asked,
@@ -234,7 +220,7 @@ walk-returns-6 : (t : ℕ) → walk-lts.Need-returns-6 (
 ) (walk-at t) walk.Post
 walk-returns-6 t c = walks-b _ _ _ _ _ (c .before .before .before .before .before .before .before .before .before .before .before .if1 .left) _ (c .before .before .before .before .before .before .before .before .before .before .shape-at .ensures) _ (c .before .before .before .before .before .before .before .before .before .number .ensures) (c .before .before .before .before .before .before .before .before .if2 .left) _ (c .before .before .before .before .before .before .walk .ensures) (c .before .before .before .before .before .before .before .if3 .left) (c .before .before .before .before .before .if4 .left) _ _ (c .before .second .ensures) (c .before .before .before .first .given .1) (c .if5 .taken)
 
-walk-add-walk-3 : (t : ℕ) → walk-lts.Need-add-walk-3 (
+walk-add-walk-2 : (t : ℕ) → walk-lts.Need-add-walk-2 (
   shape-at-reads.Asked,
   shape-at-reads.Learnt,
   number-reads.Asked,
@@ -246,7 +232,7 @@ walk-add-walk-3 : (t : ℕ) → walk-lts.Need-add-walk-3 (
   third-reads.Asked,
   third-reads.Learnt,
 ) (walk-at t) walk.Post
-walk-add-walk-3 t c = search needs
+walk-add-walk-2 t c = search needs
 
 walk-walk-requires-2 : (t : ℕ) → walk-lts.Need-walk-requires-2 (
   shape-at-reads.Asked,
@@ -276,7 +262,7 @@ walk-returns-7 : (t : ℕ) → walk-lts.Need-returns-7 (
 ) (walk-at t) walk.Post
 walk-returns-7 t c = walks-two _ _ _ _ _ (c .before .before .before .before .before .before .before .before .before .before .before .before .before .if1 .left) _ (c .before .before .before .before .before .before .before .before .before .before .before .before .shape-at .ensures) _ (c .before .before .before .before .before .before .before .before .before .before .before .number .ensures) (c .before .before .before .before .before .before .before .before .before .before .if2 .left) _ (c .before .before .before .before .before .before .before .before .walk .ensures) (c .before .before .before .before .before .before .before .before .before .if3 .left) (c .before .before .before .before .before .before .before .if4 .left) _ _ (c .before .before .before .second .ensures) (c .before .before .before .before .before .first .given .1) (c .before .before .if5 .left) (c .before .if6 .taken) _ (c .walk2 .ensures)
 
-walk-add-walk-4 : (t : ℕ) → walk-lts.Need-add-walk-4 (
+walk-add-walk-3 : (t : ℕ) → walk-lts.Need-add-walk-3 (
   shape-at-reads.Asked,
   shape-at-reads.Learnt,
   number-reads.Asked,
@@ -288,7 +274,7 @@ walk-add-walk-4 : (t : ℕ) → walk-lts.Need-add-walk-4 (
   third-reads.Asked,
   third-reads.Learnt,
 ) (walk-at t) walk.Post
-walk-add-walk-4 t c = search needs
+walk-add-walk-3 t c = search needs
 
 walk-walk-requires-3 : (t : ℕ) → walk-lts.Need-walk-requires-3 (
   shape-at-reads.Asked,
@@ -374,7 +360,7 @@ walk-returns-9 : (t : ℕ) → walk-lts.Need-returns-9 (
 ) (walk-at t) walk.Post
 walk-returns-9 t c = walks-c _ _ _ _ _ (c .before .before .before .before .before .before .before .before .before .before .before .before .before .before .before .before .before .before .if1 .left) _ (c .before .before .before .before .before .before .before .before .before .before .before .before .before .before .before .before .before .shape-at .ensures) _ (c .before .before .before .before .before .before .before .before .before .before .before .before .before .before .before .before .number .ensures) (c .before .before .before .before .before .before .before .before .before .before .before .before .before .before .before .if2 .left) _ (c .before .before .before .before .before .before .before .before .before .before .before .before .before .walk .ensures) (c .before .before .before .before .before .before .before .before .before .before .before .before .before .before .if3 .left) (c .before .before .before .before .before .before .before .before .before .before .before .before .if4 .left) _ _ (c .before .before .before .before .before .before .before .before .second .ensures) (c .before .before .before .before .before .before .before .before .before .before .first .given .1) (c .before .before .before .before .before .before .before .if5 .left) (c .before .before .before .before .before .before .if6 .left) _ (c .before .before .before .before .before .walk3 .ensures) _ _ (c .before .third .ensures) (c .before .before .before .middle .given .1) (c .if7 .taken)
 
-walk-add-walk-5 : (t : ℕ) → walk-lts.Need-add-walk-5 (
+walk-add-walk-4 : (t : ℕ) → walk-lts.Need-add-walk-4 (
   shape-at-reads.Asked,
   shape-at-reads.Learnt,
   number-reads.Asked,
@@ -386,7 +372,7 @@ walk-add-walk-5 : (t : ℕ) → walk-lts.Need-add-walk-5 (
   third-reads.Asked,
   third-reads.Learnt,
 ) (walk-at t) walk.Post
-walk-add-walk-5 t c = omega (arith, c .before .before .before .before .before .before .before .before .before .before .before .before .before .before .before .before .before .before .before .before .before .pre)
+walk-add-walk-4 t c = omega (arith, c .before .before .before .before .before .before .before .before .before .before .before .before .before .before .before .before .before .before .before .before .before .pre)
 
 walk-walk-requires-4 : (t : ℕ) → walk-lts.Need-walk-requires-4 (
   shape-at-reads.Asked,
@@ -435,10 +421,9 @@ pub +walk-spec : {M : Type 1} → statement M
     (walk-shape-at-requires t)
     (walk-number-requires t)
     (walk-returns-2 t)
-    (walk-add-t17 t)
+    (walk-add-after t)
     (walk-returns-3 t)
     (walk-add-walk t)
-    (walk-add-walk-2 t)
     (walk-walk-requires t)
     (walk-returns-4 t)
     (walk-enum-known-first t)
@@ -446,16 +431,16 @@ pub +walk-spec : {M : Type 1} → statement M
     (walk-returns-5 t)
     (walk-second-requires t)
     (walk-returns-6 t)
-    (walk-add-walk-3 t)
+    (walk-add-walk-2 t)
     (walk-walk-requires-2 t)
     (walk-returns-7 t)
-    (walk-add-walk-4 t)
+    (walk-add-walk-3 t)
     (walk-walk-requires-3 t)
     (walk-enum-known-middle t)
     (walk-enum-told-2 t)
     (walk-returns-8 t)
     (walk-third-requires t)
     (walk-returns-9 t)
-    (walk-add-walk-5 t)
+    (walk-add-walk-4 t)
     (walk-walk-requires-4 t)
     (walk-returns-10 t)
