@@ -28,15 +28,44 @@ enum {
     MONDUPIL_WORDS
 };
 
+/* The numbers of refusals:
+ *
+ *    1  no word, a number of functions that is not 1 to 64, or fewer words than its pairs
+ *    2  an arity above 3, a function with no nodes, or more than 4,000 nodes in all
+ *    3  the length is not what the pairs add up to
+ *    4  an unknown tag, operation or function
+ *    5  a local that is not bound, or a let or both that would bind a seventeenth
+ *    6  more than 64 levels
+ *    7  another number of arguments than function 0 has
+ *    8  a fuel that is not 1 to 100,000,000
+ *    9  a period that is not 1 to 10,000
+ *   10  a tau that is not 1 to 10,000
+ *   11  a workspace that is not 1 to 4,096 whole frames of 32 words
+ *   16  an unused word that is not 0
+ *   17  a wrong child position, told at the parent
+ *   18  a body that ends early, told at the position after its last node, or runs on, told at the first node too many
+ *
+ * They are tried in rising order, but for 4, 5, 6, 16, 17 and 18, which belong to one walk and so come before 7; at one node 18 is
+ * found first where the body has ended, then 4, 16, 5 and 6. Function and node are 0 for 1, 3 and 7 to 11; for 2 the node is 0.
+ *
+ * And of stops:
+ *
+ *   20  the fuel is spent
+ *   21  no frame is free
+ *   22  a sum or a product above 2^64 - 1
+ *   23  a difference below 0
+ *   24  a division by 0, or its remainder
+ */
+
 /* Runs one machine on a job table with arguments. `period` is N and `tau` the price of a fork.
  *
  * Returns 0, and the first eight words of `answer` are the machine's answer; words after the eighth stay. After a value or a stop every
  * word of the workspace is 0; after a refusal the workspace is as it was. For an unknown machine, or fewer than eight answer words, it
  * returns 1 and changes nothing.
  *
- * Every input is allowed: what is out of range is refused by number (1 to 11). What the caller must see to is C's own: each pointer is
- * not null, even where its length is 0, is aligned and has so many words behind it, and `workspace` and `answer` overlap nothing else.
- * A workspace has 32 words for each frame, and 1 to 4,096 frames.
+ * Every input is allowed: what is out of range is refused by a number of the list above. What the caller must see to is C's own: each
+ * pointer is not null, even where its length is 0, is aligned and has so many words behind it, and `workspace` and `answer` overlap
+ * nothing else. A workspace has 32 words for each frame, and 1 to 4,096 frames.
  *
  * A stop's number is 20 to 24, its function and node are in the table, and its transitions are at most the fuel, and exactly the fuel for
  * 20.

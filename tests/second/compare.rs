@@ -216,7 +216,7 @@ fn too_few(b: &Bench, reports: &Tally, count: u64) -> u64 {
             want(format!("places of {what}"), places(&what), share(least));
         }
     }
-    for (number, least) in [(1, 1), (2, 6), (3, 1), (4, 150), (5, 40), (6, 12), (7, 1), (8, 1), (9, 1), (10, 1), (11, 1)] {
+    for (number, least) in [(1, 1), (2, 6), (3, 1), (4, 60), (5, 40), (6, 12), (7, 1), (8, 1), (9, 1), (10, 1), (11, 1), (16, 90), (17, 50), (18, 120)] {
         let what = format!("refusal {number}");
         want(format!("places of {what}"), places(&what), share(least).max(1));
     }
@@ -307,7 +307,7 @@ fn settled_report() -> u64 {
 
 const FIXED_SEED: u64 = 2026;
 /// How often each case of `faults` is made from one seed, each time otherwise.
-const FAULT_TIMES: u64 = 10;
+const FAULT_TIMES: u64 = 20;
 /// Random jobs of forms from one seed.
 const SMALL_JOBS: u64 = 1_000;
 

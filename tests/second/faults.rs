@@ -124,15 +124,16 @@ pub struct Case {
     pub beyond: Option<(&'static str, bool)>,
 }
 
-/// A chain of nodes that many levels above one node, which `node` writes, and so many locals bound there.
+/// A chain of nodes that many levels above one node, which `node` writes, and so many locals bound there. The last of the chain has the
+/// node as its first child, if it is no let: no other node comes to level 65 before it.
 fn chain(dice: &mut Dice, body: &mut Vec<[u32; 4]>, above: usize, lets: usize, node: &mut dyn FnMut(&mut Dice, &mut Vec<[u32; 4]>)) {
     let at = body.len();
     if above == 0 {
         return node(dice, body);
     }
-    let binds = lets == above || lets > 0 && dice.one_in(2);
+    let binds = lets > 0 && (lets + 1 >= above || dice.one_in(2));
     body.push([if binds { 4 } else { 2 }, 0, at as u32 + 2, 0]);
-    if binds || dice.one_in(2) {
+    if binds || above > 1 && dice.one_in(2) {
         body.push([0, 1, 0, 0]);
         return chain(dice, body, above - 1, lets - binds as usize, node);
     }
@@ -188,7 +189,7 @@ pub fn case(dice: &mut Dice, kind: Kind, faults: &[Fault], mut input: Input) -> 
     let crowded = faults.contains(&Locals) && kind != Local;
     let bound = if crowded { if kind == Both { 15 + dice.below(2) as usize } else { 16 } } else { dice.below(4) as usize };
     let bound = if kind == Local && !faults.contains(&Locals) { bound.max(1) } else { bound };
-    let above = if faults.contains(&Level) { 64 } else if missing.is_some() && dice.one_in(2) { 63 } else { bound + dice.below(12) as usize };
+    let above = if faults.contains(&Level) { 64 } else if missing == Some(0) && dice.one_in(2) { 63 } else { bound + dice.below(12) as usize };
     let (above, arity) = if faults.contains(&RunsOn) { (bound.saturating_sub(3), bound.min(3)) } else { (above, 0) };
     let mut body = Vec::new();
     let mut at = 0;

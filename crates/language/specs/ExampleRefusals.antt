@@ -70,8 +70,11 @@ refusalExamples =
     ∷ at-fault (function 3 (4 ∷ 0 ∷ 2 ∷ 0 ∷ 0 ∷ 1 ∷ 0 ∷ 0 ∷ 1 ∷ 1 ∷ 0 ∷ 0 ∷ [])) (refusedAt 5 0 2)
     -- "Level above 64.": the lets are levels 1 to 64
     ∷ at-fault (function 65 (lets 64 (0 ∷ 0 ∷ 0 ∷ 0 ∷ []))) (refusedAt 6 0 64)
-    -- "At a node an early end is found first, then 4, 16, 5 and 6": where the body ends another's unknown tag stands, or level 65 begins
+    -- "At a node an early end is found first, then 4, 16, 5 and 6": where the body ends another's node stands, with an unknown tag, an unused
+    -- word or a slot that is not bound; or level 65 begins
     ∷ at-fault (2 ∷ 0 ∷ 1 ∷ 0 ∷ 1 ∷ 2 ∷ 0 ∷ 2 ∷ 0 ∷ 7 ∷ 0 ∷ 0 ∷ 0 ∷ []) (refusedAt 18 0 1)
+    ∷ at-fault (2 ∷ 0 ∷ 1 ∷ 0 ∷ 1 ∷ 2 ∷ 0 ∷ 2 ∷ 0 ∷ 0 ∷ 0 ∷ 0 ∷ 1 ∷ []) (refusedAt 18 0 1)
+    ∷ at-fault (2 ∷ 0 ∷ 1 ∷ 0 ∷ 1 ∷ 2 ∷ 0 ∷ 2 ∷ 0 ∷ 1 ∷ 0 ∷ 0 ∷ 0 ∷ []) (refusedAt 18 0 1)
     ∷ at-fault (function 64 (lets 64 [])) (refusedAt 18 0 64)
     -- 4 before 16: the unused c of an arithmetic whose operation is unknown, and the words of a call of no function, which it hides
     ∷ at-fault (function 3 (2 ∷ 7 ∷ 2 ∷ 1 ∷ 0 ∷ 1 ∷ 0 ∷ 0 ∷ 0 ∷ 1 ∷ 0 ∷ 0 ∷ [])) (refusedAt 4 0 0)
