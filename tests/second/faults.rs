@@ -183,20 +183,39 @@ fn faulty(dice: &mut Dice, body: &mut Vec<[u32; 4]>, kind: Kind, faults: &[Fault
     body[at] = words;
 }
 
+/// Where a node with these faults stands: the locals that are bound, how many of them are arguments, and the levels above it.
+fn place(dice: &mut Dice, kind: Kind, faults: &[Fault]) -> (usize, usize, usize) {
+    let has = |fault| faults.contains(&fault);
+    let bound = match kind {
+        Let if has(Locals) => 16,
+        Both if has(Locals) => 15 + dice.below(2) as usize,
+        Local if !has(Locals) => 1 + dice.below(4) as usize,
+        _ => dice.below(4) as usize,
+    };
+    if has(RunsOn) {
+        // nothing but lets above it, so that the body's end is the node's
+        return (bound, bound.min(3), bound.saturating_sub(3));
+    }
+    let above = if has(Level) {
+        64
+    } else if has(Child(0, Missing)) && dice.one_in(2) {
+        63
+    } else {
+        bound + dice.below(12) as usize
+    };
+    (bound, 0, above)
+}
+
 /// A table with these faults at a node of this kind; they can stand together.
 pub fn case(dice: &mut Dice, kind: Kind, faults: &[Fault], mut input: Input) -> Case {
-    let missing = faults.iter().find_map(|f| if let Child(child, Missing) = f { Some(*child) } else { None });
-    let crowded = faults.contains(&Locals) && kind != Local;
-    let bound = if crowded { if kind == Both { 15 + dice.below(2) as usize } else { 16 } } else { dice.below(4) as usize };
-    let bound = if kind == Local && !faults.contains(&Locals) { bound.max(1) } else { bound };
-    let above = if faults.contains(&Level) { 64 } else if missing == Some(0) && dice.one_in(2) { 63 } else { bound + dice.below(12) as usize };
-    let (above, arity) = if faults.contains(&RunsOn) { (bound.saturating_sub(3), bound.min(3)) } else { (above, 0) };
+    let (bound, arity, above) = place(dice, kind, faults);
     let mut body = Vec::new();
     let mut at = 0;
     chain(dice, &mut body, above, bound - arity, &mut |dice, body| {
         at = body.len();
         faulty(dice, body, kind, faults, bound);
     });
+    let missing = faults.iter().find_map(|f| if let Child(child, Missing) = f { Some(*child) } else { None });
     if let Some(child) = missing {
         body.truncate(at + 1 + child);
     }
@@ -204,19 +223,20 @@ pub fn case(dice: &mut Dice, kind: Kind, faults: &[Fault], mut input: Input) -> 
     if faults.contains(&RunsOn) {
         body.push(dice.pick(&BEYOND).1);
     }
-    let first = *faults.iter().min().unwrap();
-    let node = if matches!(first, RunsOn | Child(_, Missing)) { end } else { at };
     let f = if dice.one_in(2) { 0 } else { FUNCTIONS - 1 };
+    let (mut what, next) = dice.pick(&BEYOND);
     let mut arities = vec![0, 0, 1, 2, 3, 0];
     let mut bodies = vec![vec![[0, 1, 0, 0]]; FUNCTIONS];
-    let (what, next) = dice.pick(&BEYOND);
-    if f == 0 && missing.is_some() {
+    if missing.is_some() && f == 0 {
         bodies[1] = vec![next];
+    } else {
+        what = "nothing";
     }
-    arities[f] = arity;
-    bodies[f] = body;
+    (arities[f], bodies[f]) = (arity, body);
     input.table = assemble(&arities, &bodies);
-    let beyond = matches!(first, Child(_, Missing)).then_some((if f == 0 { what } else { "nothing" }, above == 63));
+    let first = *faults.iter().min().unwrap();
+    let node = if first.number() == 18 { end } else { at };
+    let beyond = matches!(first, Child(_, Missing)).then_some((what, above == 63));
     Case { input, wanted: [first.number(), f as u64, node as u64], beyond }
 }
 
