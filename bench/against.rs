@@ -1,6 +1,6 @@
 //! Measures two states of the proved machines side by side in one run: the library of an earlier commit, `before`, and that of the
 //! checkout, `after`. What is printed is markdown. Before a job is timed both must give the same answers on it, and on random jobs before
-//! the first; the program fails if they differ.
+//! the first; the program fails if they differ. A refusal 4 of before may be 16, 17 or 18 after, at the same place (02, P4).
 //!
 //! Each library is linked four times, with its code moved by 0, 16, 32 and 48 bytes (bench/against): where code begins in a line of 64
 //! bytes changed its speed by up to 15%, and in which place a linker puts it is chance. All four are measured.
@@ -40,6 +40,11 @@ impl Sides for States {
 
     fn run(&mut self, side: usize, machine: u32, j: &Job, fuel: u64, words: usize) -> Answer {
         proved(self.functions[side][self.place], &mut self.workspace, machine, j, fuel, words)
+    }
+
+    fn agrees(before: &Answer, after: &Answer) -> bool {
+        let divided = after[0] == 2 && (16..=18).contains(&after[1]) && before[..2] == [2, 4] && before[2..] == after[2..];
+        before == after || divided
     }
 }
 

@@ -52,10 +52,15 @@ pub trait Sides {
         (now() - start) / calls as f64
     }
 
+    /// Whether a side's answer agrees with that of the first side.
+    fn agrees(first: &Answer, answer: &Answer) -> bool {
+        first == answer
+    }
+
     /// The answer that all give; the program ends where they differ.
     fn agree(&mut self, machine: u32, j: &Job, fuel: u64, words: usize) -> Answer {
         let answers: Vec<Answer> = (0..Self::NAMES.len()).map(|side| self.run(side, machine, j, fuel, words)).collect();
-        if answers.iter().any(|answer| *answer != answers[0]) {
+        if answers.iter().any(|answer| !Self::agrees(&answers[0], answer)) {
             println!("DISAGREE {} {}, fuel {fuel}, N {}, {words} words", j.name, MACHINES[machine as usize], j.period);
             for (name, answer) in Self::NAMES.iter().zip(answers) {
                 println!("{name}: {answer:?}");
