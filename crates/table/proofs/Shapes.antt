@@ -5,7 +5,7 @@ use mathlib.Core.List.{List}
 use mathlib.Core.Bool.{Bool, true, false, cond}
 use native.Mathlib.Omega.{arith}
 use lib.Dec.{leb, ltb}
-use borrow.Author.Tests.{le-leb, lt-leb, leb-true}
+use borrow.Author.Tests.{not-true, not-false, le-leb, lt-leb, leb-true}
 use Rattle.table.specs.declared.Node.{Node}
 use Rattle.table.specs.declared.Node.the-variants.{Constant, Local, Arithmetic, Choose, Let, Call, Both, Unknown}
 use Rattle.table.specs.declared.Shape.{Shape}
@@ -45,6 +45,9 @@ module _ (s : Shape) (level : ℕ) where
 
   pub number-none : s .known ≡ true → s .clear ≡ true → s .bound ≡ true → level ≤ 64 → 0 ≡ numberOf s level
   number-none k c b l = rw (k, c, b, le-leb level 64 l)
+
+-- these laws, and what a negated test says
+pub ruleset numbers = (number-unknown, number-unused, number-unbound, number-deep, number-none, not-true, not-false)
 
 -- what a node binds stays within 16 locals
 module _ (w : List ℕ) (a b c k : ℕ) (few : k ≤ 16) where
