@@ -150,7 +150,7 @@ impl Bench {
     fn faults(&mut self, dice: &mut Dice, reports: &Reports, times: u64) -> u64 {
         let mut met = faults::Met::default();
         for (kind, faults) in (0..times).flat_map(|_| faults::all()) {
-            let settings = jobs::well_formed(dice);
+            let settings = if dice.one_in(2) { jobs::well_formed(dice) } else { jobs::settings_out(dice) };
             let case = faults::case(dice, kind, &faults, settings);
             let told = self.one(dice, reports, "faults", &case.input)[0];
             let [number, f, node] = case.wanted;

@@ -104,11 +104,11 @@ impl Kind {
     }
 }
 
-/// Which faults can stand together: a body has one end, level 65 is no root's, and a missing child leaves nothing to run on.
+/// Which faults can stand together: a body has one end, and where a child is missing nothing runs on.
 fn together(x: Fault, y: Fault) -> bool {
     !matches!(
         (x.min(y), x.max(y)),
-        (Child(_, Missing), Child(_, Missing)) | (Child(_, Missing), RunsOn) | (Level, RunsOn)
+        (Child(_, Missing), Child(_, Missing)) | (Child(_, Missing), RunsOn)
     )
 }
 
@@ -192,18 +192,15 @@ fn place(dice: &mut Dice, kind: Kind, faults: &[Fault]) -> (usize, usize, usize)
         Local if !has(Locals) => 1 + dice.below(4) as usize,
         _ => dice.below(4) as usize,
     };
-    if has(RunsOn) {
-        // nothing but lets above it, so that the body's end is the node's
-        return (bound, bound.min(3), bound.saturating_sub(3));
-    }
+    let arity = bound.min(dice.below(4) as usize);
     let above = if has(Level) {
         64
     } else if has(Child(0, Missing)) && dice.one_in(2) {
         63
     } else {
-        bound + dice.below(12) as usize
+        bound - arity + dice.below(12) as usize
     };
-    (bound, 0, above)
+    (bound, arity, above)
 }
 
 /// A table with these faults at a node of this kind; they can stand together.

@@ -16,7 +16,7 @@ use Rattle.language.specs.Answers.{toldBy, afterCheck, runOf, answerOf}
 use Rattle.language.specs.Settled.{Row, rows, answered, told, SettledRuns}
 use Rattle.language.specs.Examples.{examples, ExampleRuns}
 use Rattle.language.specs.ExampleStops.{stopExamples, StopExampleRuns}
-use Rattle.language.specs.ExampleRefusals.{lets, refusalExamples, RefusalExampleRuns}
+use Rattle.language.specs.ExampleRefusals.{lets, bindings, refusalExamples, RefusalExampleRuns}
 
 -- The answers of rows; to unfold it is to unfold all that an answer is computed by.
 by-computation : List Row → List Answer
@@ -36,5 +36,5 @@ unfolding stopExamples by-computation
 stops-worked = refl
 
 pub refusals-worked : RefusalExampleRuns
-unfolding lets refusalExamples by-computation
+unfolding lets bindings refusalExamples by-computation
 refusals-worked = refl

@@ -1,6 +1,6 @@
 -- The refusals, 1 to 11 and 16 to 18: inputs worked by hand from document 01, "Turned away by the input", and from P4 of document 02. Proved
 -- in proofs/Settled.antt, `refusals-worked`.
-use Prim.Native.Nat.{ℕ, zero, suc}
+use Prim.Native.Nat.{ℕ, zero, suc, _+_}
 use mathlib.Core.Path.{_≡_}
 use mathlib.Core.List.{List, [], _∷_}
 use Rattle.language.specs.declared.Answer.{Answer}
@@ -19,6 +19,11 @@ refused number = refusedAt number 0 0
 unfoldable pub lets : ℕ → List ℕ → List ℕ
 lets zero rest = rest
 lets (suc n) rest = 4 ∷ 0 ∷ 0 ∷ 0 ∷ lets n rest
+
+-- so many lets, each the second child of the one before, of which the first stands at a position, and what follows, with as many locals bound
+unfoldable pub bindings : ℕ → ℕ → List ℕ → List ℕ
+bindings zero at rest = rest
+bindings (suc n) at rest = 4 ∷ 0 ∷ (at + 2) ∷ 0 ∷ 0 ∷ 1 ∷ 0 ∷ 0 ∷ bindings n (at + 2) rest
 
 -- one function, of arity 0, with so many nodes
 abbrev function : ℕ → List ℕ → List ℕ
@@ -65,9 +70,11 @@ refusalExamples =
     ∷ at-fault (function 2 (0 ∷ 1 ∷ 0 ∷ 0 ∷ 0 ∷ 1 ∷ 0 ∷ 0 ∷ [])) (refusedAt 18 0 1)
     ∷ at-fault (function 2 (2 ∷ 0 ∷ 5 ∷ 0 ∷ 0 ∷ 1 ∷ 0 ∷ 0 ∷ [])) (refusedAt 17 0 0)
     ∷ at-fault (function 4 (2 ∷ 0 ∷ 3 ∷ 0 ∷ 0 ∷ 1 ∷ 0 ∷ 0 ∷ 0 ∷ 1 ∷ 0 ∷ 0 ∷ 0 ∷ 1 ∷ 0 ∷ 0 ∷ [])) (refusedAt 17 0 0)
-    -- "A slot not bound"; the second child of a let has one more
+    -- "A slot not bound; a let or both that would bind more than 16 locals"; the second child of a let has one more
     ∷ at-fault (function 1 (1 ∷ 0 ∷ 0 ∷ 0 ∷ [])) (refusedAt 5 0 0)
     ∷ at-fault (function 3 (4 ∷ 0 ∷ 2 ∷ 0 ∷ 0 ∷ 1 ∷ 0 ∷ 0 ∷ 1 ∷ 1 ∷ 0 ∷ 0 ∷ [])) (refusedAt 5 0 2)
+    ∷ at-fault (function 33 (bindings 16 0 (4 ∷ 0 ∷ 34 ∷ 0 ∷ []))) (refusedAt 5 0 32)
+    ∷ at-fault (function 31 (bindings 15 0 (6 ∷ 0 ∷ 32 ∷ 33 ∷ []))) (refusedAt 5 0 30)
     -- "Level above 64.": the lets are levels 1 to 64
     ∷ at-fault (function 65 (lets 64 (0 ∷ 0 ∷ 0 ∷ 0 ∷ []))) (refusedAt 6 0 64)
     -- "At a node an early end is found first, then 4, 16, 5 and 6": where the body ends another's node stands, with an unknown tag, an unused
@@ -84,6 +91,11 @@ refusalExamples =
     ∷ at-fault (function 65 (lets 64 (7 ∷ 0 ∷ 0 ∷ 0 ∷ []))) (refusedAt 4 0 64)
     ∷ at-fault (function 65 (lets 64 (0 ∷ 0 ∷ 0 ∷ 1 ∷ []))) (refusedAt 16 0 64)
     ∷ at-fault (function 65 (lets 64 (1 ∷ 0 ∷ 0 ∷ 0 ∷ []))) (refusedAt 5 0 64)
+    -- 4, 16, 5 and 6 before 17: a wrong b is compared after the first child
+    ∷ at-fault (function 3 (2 ∷ 7 ∷ 9 ∷ 0 ∷ 0 ∷ 1 ∷ 0 ∷ 0 ∷ 0 ∷ 1 ∷ 0 ∷ 0 ∷ [])) (refusedAt 4 0 0)
+    ∷ at-fault (function 3 (2 ∷ 0 ∷ 9 ∷ 1 ∷ 0 ∷ 1 ∷ 0 ∷ 0 ∷ 0 ∷ 1 ∷ 0 ∷ 0 ∷ [])) (refusedAt 16 0 0)
+    ∷ at-fault (function 35 (bindings 16 0 (4 ∷ 0 ∷ 9 ∷ 0 ∷ 0 ∷ 1 ∷ 0 ∷ 0 ∷ 0 ∷ 1 ∷ 0 ∷ 0 ∷ []))) (refusedAt 5 0 32)
+    ∷ at-fault (function 66 (lets 65 (0 ∷ 0 ∷ 0 ∷ 0 ∷ []))) (refusedAt 6 0 64)
     -- 7 to 11, each with the faults of the higher numbers
     ∷ at-fault tableA (refused 7)
     ∷ row sequentialOf tableA [] 0 0 0 0 (refused 8)

@@ -1,4 +1,4 @@
--- What a node's own words assure where no number refuses them.
+-- Which number refuses a node's own words, and what they assure where none does.
 use Prim.Native.Nat.{ℕ, _<_, _≤_}
 use mathlib.Core.Path.{_≡_, refl}
 use mathlib.Core.List.{List}

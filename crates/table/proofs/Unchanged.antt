@@ -1,8 +1,10 @@
 -- P4 changed numbers and nothing else: each part of the reading, with 4, 16, 17 and 18 read as 4, is the part of before.
 use Prim.Native.Nat.{ℕ, zero, suc, _+_}
-use mathlib.Core.Path.{_≡_, refl, ap, _∙_}
+use mathlib.Core.Path.{_≡_, refl, sym, ap, _∙_}
 use mathlib.Core.List.{List}
 use mathlib.Core.Bool.{Bool, true, false, cond}
+use mathlib.Core.Logic.{_↔_}
+use native.Mathlib.Omega.{arith}
 use lib.ListN.{length}
 use lib.Dec.{leb, eqb}
 use Rattle.table.specs.declared.Body.{Body}
@@ -14,7 +16,8 @@ use Rattle.table.specs.declared.Walked.the-variants.{End, Fault}
 use Rattle.table.specs.Words.{functions, arityAt, nodesAt, startOf, bodyAt}
 use Rattle.table.specs.Walk.{shapeAt, numberOf, next, afterFirst, children, own, walkOf}
 use Rattle.table.specs.Read.{_then_, unless, headerTest, header, entryTest, entry, exact, rootOf, bodyRead, each, contents, bodies, readOf}
-use Rattle.table.specs.Before.{numberBefore, nextBefore, afterFirstBefore, childrenBefore, walkBefore, rootBefore, bodyBefore, readBefore, asFour, readAsFour, Unchanged}
+use Rattle.table.specs.Before.{numberBefore, nextBefore, afterFirstBefore, childrenBefore, walkBefore, rootBefore, bodyBefore, readBefore, asFour, readAsFour, Unchanged, AcceptedBefore}
+use Rattle.table.proofs.Acceptance.{read-iff}
 
 walkAsFour : Walked → Walked
 walkAsFour (End q) = End q
@@ -107,3 +110,11 @@ module _ (w : List ℕ) where
 pub unchanged : Unchanged
 unfolding readOf bodies readBefore
 unchanged w = rw (then-unchanged (header w) (contents w then bodies w), then-unchanged (contents w) (bodies w), header-unchanged w, contents-unchanged w, each-unchanged (bodyRead w) (bodyBefore w) (body-unchanged w) (functions w) 0)
+
+accepted-as-four : (r : Reading) → (readAsFour r ≡ Accepted) ↔ (r ≡ Accepted)
+unfolding readAsFour
+accepted-as-four Accepted = ((λ e. refl), (λ e. refl))
+accepted-as-four (Refused r) = ((λ e. let z : _≡_ {A = ℕ} 0 1 = cc in absurd (omega arith)), (λ e. let z : _≡_ {A = ℕ} 0 1 = cc in absurd (omega arith)))
+
+pub accepted-before : AcceptedBefore
+accepted-before w = ((λ e. read-iff w .0 (accepted-as-four (readOf w) .0 (unchanged w ∙ e))), (λ h. sym (unchanged w) ∙ accepted-as-four (readOf w) .1 (read-iff w .1 h)))

@@ -1,10 +1,11 @@
--- The reader's answer before 02's P4, and the theorem that P4 changed numbers and nothing else. 01 has one number, 4, also for "an unused word
+-- The reader's answer before 02's P4, and the theorems that P4 changed numbers and nothing else. 01 has one number, 4, also for "an unused word
 -- not 0; a child position that is wrong (told at the parent); a body that ends early or runs on (told at that position)". Each definition here
--- is the one of Walk or Read with that number; nothing but the theorem uses them.
+-- is the one of Walk or Read with that number; nothing but the theorems uses them.
 use Prim.Native.Nat.{ℕ, zero, suc, _+_}
 use mathlib.Core.Path.{_≡_}
 use mathlib.Core.List.{List}
 use mathlib.Core.Bool.{cond, _&&_}
+use mathlib.Core.Logic.{_↔_}
 use lib.Dec.{leb, eqb}
 use Rattle.table.specs.declared.Body.{Body}
 use Rattle.table.specs.declared.Shape.{Shape}
@@ -15,6 +16,7 @@ use Rattle.table.specs.declared.Walked.the-variants.{End, Fault}
 use Rattle.table.specs.Words.{functions, arityAt, nodesAt, bodyAt, bAt, cAt}
 use Rattle.table.specs.Walk.{shapeAt, own}
 use Rattle.table.specs.Read.{refused, _then_, unless, header, each, contents, readOf}
+use Rattle.table.specs.WellFormed.{WellFormed}
 
 abbrev pub numberBefore : Shape → ℕ → ℕ
 numberBefore s level = cond (s .known) (cond (s .clear) (cond (s .bound) (cond (leb level 64) 0 6) 5) 4) 4
@@ -62,3 +64,7 @@ readAsFour (Refused r) = refused (asFour (r .number)) (r .function) (r .node)
 -- so accepted for the same tables, and refused with the same function and node.
 abbrev pub Unchanged : Type 0
 Unchanged = (w : List ℕ) → readAsFour (readOf w) ≡ readBefore w
+
+-- THEOREM (`accepted-before`, in the same file): what an accepted table assures is what it assured before
+abbrev pub AcceptedBefore : Type 0
+AcceptedBefore = (w : List ℕ) → (readBefore w ≡ Accepted) ↔ WellFormed w
