@@ -8,17 +8,19 @@ use Rattle.table.specs.declared.Reading.{Reading}
 use Rattle.table.specs.declared.Reading.the-variants as reading
 use Rattle.schedule.specs.Graph.{Graph, work, span}
 use Rattle.schedule.specs.Algebra.{graphs}
+use Rattle.schedule.specs.FrameMachine.{Place}
 use Rattle.schedule.specs.Machine as machine
 use Rattle.schedule.specs.Machine.{value, stop, Result, ended, ongoing, Schedule, sequential, parallel, heartbeat}
 use Rattle.schedule.specs.Runs.{outcome}
 use Rattle.schedule.proofs.Demand.{demand-3}
+use Rattle.schedule.proofs.Lockstep.{in-lockstep}
 use Rattle.language.specs.declared.Counts.{Counts}
 use Rattle.language.specs.declared.Answer.{Answer}
 use Rattle.language.specs.declared.Answer.the-variants.{Value, Stopped, Refused}
 use Rattle.language.specs.Language.{language}
 use Rattle.language.specs.Checks.{framesIn, checkedOf}
-use Rattle.language.specs.Answers.{entryCode, countsOf, toldBy, afterCheck, runOf, answerOf, sequentialOf, parallelOf, heartbeatOf}
-use Rattle.language.specs.Claim.{FourStatements, DemandThree, ForEveryInput}
+use Rattle.language.specs.Answers.{entryCode, countsOf, toldBy, afterCheck, runOf, answerOf, sequentialOf, parallelOf, heartbeatOf, deepestOf}
+use Rattle.language.specs.Claim.{FourStatements, DemandThree, ForEveryInput, SameDepth, DepthForEveryInput}
 use Rattle.language.proofs.Admission.{checked-iff}
 
 -- the counts of an answer that has a value
@@ -32,7 +34,7 @@ module _ (w arguments : List ℕ) (fuel N τ workspace : ℕ) (N-positive : 1 �
   ran m = outcome graphs (language w) fuel (framesIn workspace) m (entryCode arguments)
 
   abbrev told : Graph → machine.RunCounts → Counts
-  told g t = countsOf (t .transitions) (t .forks) (work τ g) (span τ g)
+  told g t = countsOf (t .transitions) (t .forks) (work τ g) (span τ g) (t .deepest)
 
   -- of the runs, by what the sequential one comes to
   of-run : (v : ℕ) (a : Counts) (o : Result graphs (language w)) → ran sequential ≡ o → toldBy τ o ≡ Value v a
@@ -82,3 +84,37 @@ claim w arguments fuel N τ workspace = record {
 pub claim-of : (w arguments : List ℕ) (fuel N τ workspace : ℕ) (s p h : Answer) → s ≡ sequentialOf w arguments fuel N τ workspace
     → p ≡ parallelOf w arguments fuel N τ workspace → h ≡ heartbeatOf w arguments fuel N τ workspace → DemandThree N τ s p h
 claim-of w arguments fuel N τ workspace s p h d e f = rw (d, e, f) (claim w arguments fuel N τ workspace)
+
+-- THE DEPTH: that of the sequential run, of any machine's, by lockstep
+module _ (m : Schedule) (w arguments : List ℕ) (fuel τ workspace v : ℕ) (a : Counts) where
+  depth-of-run : (o : Result graphs (language w)) → outcome graphs (language w) fuel (framesIn workspace) sequential (entryCode arguments) ≡ o
+      → toldBy τ o ≡ Value v a → deepestOf (runOf m w arguments fuel τ workspace) ≡ a .deepest
+  unfolding toldBy runOf deepestOf counts-of
+  depth-of-run (ended (value u) g t) e q =
+      let never : (p : Place) → value u ≡ stop 20 p → ⊥ = λ p i. let no : _≡_ {A = ℕ} 0 1 = cc in omega arith in
+      let l = in-lockstep graphs (language w) fuel (framesIn workspace) m (entryCode arguments) (value u) g t never e in
+      ap (λ o. deepestOf (toldBy τ o)) (l .run .is) ∙ l .depth ∙ ap (λ (x : Counts). x .deepest) (ap (counts-of a) q)
+  depth-of-run (ended (stop i p) g t) e q = let no : _≡_ {A = ℕ} 0 1 = cc in absurd (omega arith)
+  depth-of-run (ongoing s) e q = let no : _≡_ {A = ℕ} 0 1 = cc in absurd (omega arith)
+
+  depth-of-check : (r : Reading) → afterCheck r (runOf sequential w arguments fuel τ workspace) ≡ Value v a
+      → deepestOf (afterCheck r (runOf m w arguments fuel τ workspace)) ≡ a .deepest
+  unfolding afterCheck runOf
+  depth-of-check reading.Accepted q = depth-of-run _ refl q
+  depth-of-check (reading.Refused r) q = let no : _≡_ {A = ℕ} 0 1 = cc in absurd (omega arith)
+
+  depth-of : (N : ℕ) → sequentialOf w arguments fuel N τ workspace ≡ Value v a → deepestOf (answerOf m w arguments fuel N τ workspace) ≡ a .deepest
+  unfolding answerOf
+  depth-of N q = depth-of-check (checkedOf w (length arguments) fuel N τ workspace) q
+
+pub same-depth : DepthForEveryInput
+same-depth w arguments fuel N τ workspace = record {
+  at-a-value = λ v a q. (
+    depth-of parallel w arguments fuel τ workspace v a N q,
+    depth-of (heartbeat N) w arguments fuel τ workspace v a N q,
+  );
+}
+
+pub same-depth-of : (w arguments : List ℕ) (fuel N τ workspace : ℕ) (s p h : Answer) → s ≡ sequentialOf w arguments fuel N τ workspace
+    → p ≡ parallelOf w arguments fuel N τ workspace → h ≡ heartbeatOf w arguments fuel N τ workspace → SameDepth s p h
+same-depth-of w arguments fuel N τ workspace s p h d e f = rw (d, e, f) (same-depth w arguments fuel N τ workspace)

@@ -7,4 +7,5 @@ pub mod Stops
 pub mod Claim
 pub mod House
 pub mod Values
+pub mod Depth
 pub mod Settled

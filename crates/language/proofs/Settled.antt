@@ -16,6 +16,7 @@ use Rattle.language.specs.Answers.{toldBy, afterCheck, runOf, answerOf}
 use Rattle.language.specs.Settled.{Row, rows, answered, told, SettledRuns}
 use Rattle.language.specs.Examples.{examples, ExampleRuns}
 use Rattle.language.specs.ExampleStops.{stopExamples, StopExampleRuns}
+use Rattle.language.specs.ExampleDepths.{depthExamples, DepthExampleRuns}
 use Rattle.language.specs.ExampleRefusals.{lets, bindings, refusalExamples, RefusalExampleRuns}
 
 -- The answers of rows; to unfold it is to unfold all that an answer is computed by.
@@ -34,6 +35,10 @@ worked = refl
 pub stops-worked : StopExampleRuns
 unfolding stopExamples by-computation
 stops-worked = refl
+
+pub depths-worked : DepthExampleRuns
+unfolding depthExamples by-computation
+depths-worked = refl
 
 pub refusals-worked : RefusalExampleRuns
 unfolding lets bindings refusalExamples by-computation

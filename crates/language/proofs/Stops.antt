@@ -96,9 +96,9 @@ spent-at w c s f n =
     record { least = z .least; most = z .most; function = rw f (z .function); node = rw (f, n) (z .node) }
 
 -- An operation's stop is 22, 23 or 24.
-record Arithmetical (i : ℕ) : Type 0 where
-  least : 22 ≤ i
-  most : i ≤ 24
+pub record Arithmetical (i : ℕ) : Type 0 where
+  pub least : 22 ≤ i
+  pub most : i ≤ 24
 
 is-fails : (i j : ℕ) → 22 ≤ j → j ≤ 24 → _≡_ {A = Computed} (Fails j) (Fails i) → Arithmetical i
 is-fails i j a b e = let s : j ≡ i = cc in record { least = omega arith; most = omega arith }
@@ -114,7 +114,7 @@ fails-if : (t : Bool) (v j i : ℕ) → 22 ≤ j → j ≤ 24 → cond t (Fails 
 fails-if true v j i a b e = is-fails i j a b e
 fails-if false v j i a b e = not-fails v i e
 
-computed-fails : (o : Operation) (x y i : ℕ) → computed o x y ≡ Fails i → Arithmetical i
+pub computed-fails : (o : Operation) (x y i : ℕ) → computed o x y ≡ Fails i → Arithmetical i
 unfolding computed
 computed-fails Add x y i e = fails-unless (ltb (x + y) (2 ^ 64)) (x + y) 22 i (omega arith) (omega arith) e
 computed-fails Subtract x y i e = fails-unless (leb y x) (x - y) 23 i (omega arith) (omega arith) e
@@ -244,11 +244,11 @@ module _ (m : Schedule) (w arguments : List ℕ) (fuel N τ workspace : ℕ) (s 
   ran = outcome graphs (language.language w) fuel (framesIn workspace) m (entryCode arguments)
 
   ended-so : (table : WellFormed w) (i : ℕ) (p : Place) (g : Graph) (t : machine.RunCounts) → ran ≡ ended (stop i p) g t
-      → _≡_ {A = Stop} (record { number = i; function = p .function; node = p .node; transitions = t .transitions }) s → Listed w fuel s
+      → _≡_ {A = Stop} (record { number = i; function = p .function; node = p .node; transitions = t .transitions; deepest = t .deepest }) s → Listed w fuel s
   ended-so table i p g t e q =
       let a = stopping.told (language.language w) (CodeOk w) (FrameOk w) (ForkOk w) (Tells w) graphs fuel (framesIn workspace) (known w table) m
       (entryCode arguments) (enter w table 0 (omega (arith, table .contents .header .some))) i p g t e in
-      let z : Listed w fuel (record { number = i; function = p .function; node = p .node; transitions = t .transitions }) = record {
+      let z : Listed w fuel (record { number = i; function = p .function; node = p .node; transitions = t .transitions; deepest = t .deepest }) = record {
         least = a .tells .least;
         most = omega arith;
         function = a .tells .function;

@@ -35,7 +35,7 @@ module _ (w : List ℕ) (fuel frames τ : ℕ) (m : Schedule) (c : Code) where
       → toldBySpans τ (map-outcome (span τ) (map-state graphs (spans τ) (language w) (span τ)) o) ≡ toldBy τ o
   unfolding map-outcome toldBy toldBySpans
   told-by (ended (value v) g t) e =
-      ap (λ (n : ℕ). Value v (countsOf (t .transitions) (t .forks) n (span τ g))) (sym (counts-work v g t e))
+      ap (λ (n : ℕ). Value v (countsOf (t .transitions) (t .forks) n (span τ g) (t .deepest))) (sym (counts-work v g t e))
   told-by (ended (stop i p) g t) e = refl
   told-by (ongoing s) e = refl
 

@@ -23,31 +23,32 @@ use Rattle.language.specs.Checks.{framesIn, checkedOf}
 abbrev pub entryCode : List ℕ → Code
 entryCode arguments = entered 0 arguments
 
--- "The counts are transitions, forks, work and span."
-abbrev pub countsOf : ℕ → ℕ → ℕ → ℕ → Counts
-countsOf transitions forks work span =
-    record { transitions = transitions; forks = forks; work = record { 0 = work }; span = record { 0 = span } }
+-- "The counts are transitions, forks, work and span." 02, P7: "The counts of every value and every stop gain the largest number of frames occupied
+-- at once." It is called the depth.
+abbrev pub countsOf : ℕ → ℕ → ℕ → ℕ → ℕ → Counts
+countsOf transitions forks work span deepest =
+    record { transitions = transitions; forks = forks; work = record { 0 = work }; span = record { 0 = span }; deepest = deepest }
 
--- "The answer is the number, function, node and transitions made."
-abbrev pub stopped : ℕ → Place → ℕ → Answer
-stopped number p transitions =
-    Stopped (record { number = number; function = p .function; node = p .node; transitions = transitions })
+-- "The answer is the number, function, node and transitions made."; and the depth reached.
+abbrev pub stopped : ℕ → Place → ℕ → ℕ → Answer
+stopped number p transitions deepest =
+    Stopped (record { number = number; function = p .function; node = p .node; transitions = transitions; deepest = deepest })
 
 -- No run is unfinished (crate schedule, theorem `finishes`), so that this is never told.
 abbrev pub unfinished : Answer
-unfinished = stopped 0 (record { function = 0; node = 0 }) 0
+unfinished = stopped 0 (record { function = 0; node = 0 }) 0 0
 
 -- "An answer is either a value with its counts or a stop with its place." Work and span are those of the run's cost graph, priced by τ.
 unfoldable pub toldBy : {X : Type 0} → ℕ → Outcome Graph X → Answer
-toldBy τ (ended (value v) g t) = Value v (countsOf (t .transitions) (t .forks) (work τ g) (span τ g))
-toldBy τ (ended (stop i p) g t) = stopped i p (t .transitions)
+toldBy τ (ended (value v) g t) = Value v (countsOf (t .transitions) (t .forks) (work τ g) (span τ g) (t .deepest))
+toldBy τ (ended (stop i p) g t) = stopped i p (t .transitions) (t .deepest)
 toldBy τ (ongoing s) = unfinished
 
 -- The same for code, which keeps no graph but its span, as a number s; work is counted: transitions + τ · forks. Nobody need believe it:
 -- that it tells the same is a theorem (proofs/Told.antt, `told-by-spans`).
 unfoldable pub toldBySpans : {X : Type 0} → ℕ → Outcome ℕ X → Answer
-toldBySpans τ (ended (value v) s t) = Value v (countsOf (t .transitions) (t .forks) (t .transitions + τ * t .forks) s)
-toldBySpans τ (ended (stop i p) s t) = stopped i p (t .transitions)
+toldBySpans τ (ended (value v) s t) = Value v (countsOf (t .transitions) (t .forks) (t .transitions + τ * t .forks) s (t .deepest))
+toldBySpans τ (ended (stop i p) s t) = stopped i p (t .transitions) (t .deepest)
 toldBySpans τ (ongoing s) = unfinished
 
 -- "Nothing runs" where the check refuses; the answer is then the refusal.
@@ -77,6 +78,12 @@ parallelOf = answerOf parallel
 
 abbrev pub heartbeatOf : Machine
 heartbeatOf w arguments fuel N τ workspace = answerOf (heartbeat N) w arguments fuel N τ workspace
+
+-- The depth that an answer shows; a refusal shows none.
+unfoldable pub deepestOf : Answer → ℕ
+deepestOf (Value v counts) = counts .deepest
+deepestOf (Stopped s) = s .deepest
+deepestOf (Refused r) = 0
 
 -- THEOREM (proofs/Told.antt, `refused-alike`): a refusal is of the input and not of a machine. Where one machine answers it, so does every
 -- other: "All three machines check all eleven."

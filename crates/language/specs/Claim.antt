@@ -7,7 +7,7 @@ use mathlib.Core.List.{List}
 use Rattle.language.specs.declared.Counts.{Counts}
 use Rattle.language.specs.declared.Answer.{Answer}
 use Rattle.language.specs.declared.Answer.the-variants.{Value}
-use Rattle.language.specs.Answers.{sequentialOf, parallelOf, heartbeatOf}
+use Rattle.language.specs.Answers.{sequentialOf, parallelOf, heartbeatOf, deepestOf}
 
 -- The four statements, beside a sequential answer with value v and counts a: the two other machines have the same value, with counts p and
 -- h; the work bound; the span bound; the identity of work and forks.
@@ -28,4 +28,14 @@ pub record DemandThree (N τ : ℕ) (sequential parallel heartbeat : Answer) : T
 abbrev pub ForEveryInput : Type 0
 ForEveryInput = (w arguments : List ℕ) (fuel N τ workspace : ℕ)
     → DemandThree N τ (sequentialOf w arguments fuel N τ workspace) (parallelOf w arguments fuel N τ workspace)
+    (heartbeatOf w arguments fuel N τ workspace)
+
+-- BESIDE DEMAND 3 (02, P7): "Where the sequential run has a value, all three machines show the same depth."
+pub record SameDepth (sequential parallel heartbeat : Answer) : Type 0 where
+  pub at-a-value : (v : ℕ) (a : Counts) → sequential ≡ Value v a → (deepestOf parallel ≡ a .deepest) × (deepestOf heartbeat ≡ a .deepest)
+
+-- THEOREM (proofs/Claim.antt, `same-depth`), for every input.
+abbrev pub DepthForEveryInput : Type 0
+DepthForEveryInput = (w arguments : List ℕ) (fuel N τ workspace : ℕ)
+    → SameDepth (sequentialOf w arguments fuel N τ workspace) (parallelOf w arguments fuel N τ workspace)
     (heartbeatOf w arguments fuel N τ workspace)

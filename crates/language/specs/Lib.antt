@@ -8,9 +8,11 @@ pub mod Admitted
 pub mod Answers
 pub mod Stops
 pub mod Claim
+pub mod Depth
 pub mod House
 pub mod Values
 pub mod Settled
 pub mod Examples
 pub mod ExampleStops
+pub mod ExampleDepths
 pub mod ExampleRefusals

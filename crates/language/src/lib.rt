@@ -16,20 +16,22 @@ ghost use Rattle.language.specs.Checks.{rangeOf, workspaceOf, settingsOf
 ghost use Rattle.language.specs.Admitted.{Admitted};
 ghost use Rattle.language.specs.House.{House};
 
-// 01: "The counts are transitions, forks, work and span."
+// 01: "The counts are transitions, forks, work and span." 02, P7: they gain "the largest number of frames occupied at once", the depth.
 pub struct Counts {
     pub transitions: u64,
     pub forks: u64,
     pub work: Work,
     pub span: Span,
+    pub deepest: usize,
 }
 
-// 01, "Stopped by the run's state": "The answer is the number, function, node and transitions made."
+// 01, "Stopped by the run's state": "The answer is the number, function, node and transitions made." 02, P7: and the depth reached.
 pub struct Stop {
     pub number: u32,
     pub function: usize,
     pub node: usize,
     pub transitions: u64,
+    pub deepest: usize,
 }
 
 // What a machine answers: a value with its counts, a stop with its place, or a refusal of the input.

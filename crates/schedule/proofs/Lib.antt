@@ -13,6 +13,7 @@ pub mod Heartbeat
 pub mod WorkCount
 pub mod Demand
 pub mod Values
+pub mod Depth
 pub mod Bounds
 pub mod Stopping
 pub mod Stretch

@@ -8,5 +8,6 @@ pub mod Homomorphism
 pub mod Lockstep
 pub mod Demand
 pub mod Values
+pub mod Depth
 pub mod Bounds
 pub mod Stretch

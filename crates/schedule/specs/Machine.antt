@@ -52,7 +52,7 @@ pub data Ending : Type 0 where
   stop : ℕ → Place → Ending
 
 -- The counts of a run, apart from credits and fuel. `deepest` is the most frames that were occupied at once: the frames resource of demand 2,
--- and what request P7 adds to the answers. Work and span are the graph's. Counts change by the three functions below, and by nothing else.
+-- and the depth that answers tell (02, P7). Work and span are the graph's. Counts change by the three functions below, and by nothing else.
 pub record RunCounts : Type 0 where
   pub transitions : ℕ
   pub forks : ℕ
