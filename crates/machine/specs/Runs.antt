@@ -40,8 +40,8 @@ begun count = record {
 -- what is answered where a run ends at these registers; a run that goes on is at no end, so that the first line is never told
 unfoldable pub toldAt : ℕ → Registers → Step → Answer
 toldAt τ s (Go next) = unfinished
-toldAt τ s (Value v) = answer.Value v (countsOf (s .transitions) (s .forks) (s .transitions + τ * s .forks) (s .span .0))
-toldAt τ s (Halt h) = stopped (h .number) (record { function = h .function; node = h .node }) (s .transitions)
+toldAt τ s (Value v) = answer.Value v (countsOf (s .transitions) (s .forks) (s .transitions + τ * s .forks) (s .span .0) (s .deepest))
+toldAt τ s (Halt h) = stopped (h .number) (record { function = h .function; node = h .node }) (s .transitions) (s .deepest)
 
 -- the counts are small enough for the sum of the work
 pub record Countable (plan : Plan) (s : Registers) : Type 0 where

@@ -60,7 +60,7 @@ fn begin(plan: Plan, count: usize) -> Compact
 // The counts at a run's end.
 fn count(tau: u64, s: Registers) -> Counts
     requires { ⌜ (s .transitions ≤ 100000000) × (tau ≤ 10000) × (s .forks ≤ 1000000000) ⌝ }
-    ensures { λ r. ⌜ r ≡ countsOf (s .transitions) (s .forks) (s .transitions + tau * s .forks) (s .span .0) ⌝ }
+    ensures { λ r. ⌜ r ≡ countsOf (s .transitions) (s .forks) (s .transitions + tau * s .forks) (s .span .0) (s .deepest) ⌝ }
 {
     let work = Work::of(s.transitions, tau, s.forks);
     let span = s.span;
@@ -69,29 +69,31 @@ fn count(tau: u64, s: Registers) -> Counts
         forks: s.forks,
         work,
         span,
+        deepest: s.deepest,
     }
 }
 
-fn stop(number: u32, function: usize, node: usize, transitions: u64) -> Answer
-    ensures { λ r. ⌜ r ≡ stopped number (record { function = function; node = node }) transitions ⌝ }
+fn stop(number: u32, function: usize, node: usize, transitions: u64, deepest: usize) -> Answer
+    ensures { λ r. ⌜ r ≡ stopped number (record { function = function; node = node }) transitions deepest ⌝ }
 {
     Answer::Stopped(Stop {
         number,
         function,
         node,
         transitions,
+        deepest,
     })
 }
 
-// The answer where a run ends: its value with the counts, or its stop with the transitions made.
+// The answer where a run ends: its value with the counts, or its stop with the transitions made and the depth reached.
 fn tell(plan: Plan, s: Registers, step: Progress) -> Answer
     requires { ⌜ Countable plan s ⌝ }
     ensures { λ r. ⌜ r ≡ toldAt (plan .tau) s (stepOf step) ⌝ }
 {
     match step {
         Progress::Value(v) => Answer::Value(v, count(plan.tau, s)),
-        Progress::Halt(h) => stop(h.number, h.function, h.node, s.transitions),
-        Progress::Go(_) => stop(0, 0, 0, 0),
+        Progress::Halt(h) => stop(h.number, h.function, h.node, s.transitions, s.deepest),
+        Progress::Go(_) => stop(0, 0, 0, 0, 0),
     }
 }
 
@@ -226,7 +228,7 @@ pub fn heartbeat(
     machine(words, arguments, settings, false, period, workspace)
 }
 
-// All three machines on one workspace, one after the other, with demand 3 of their answers.
+// All three machines on one workspace, one after the other, with demand 3 of their answers and the same depth at a value.
 pub fn all_three(
     words: &[u32],
     arguments: &[u64],
