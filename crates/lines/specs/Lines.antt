@@ -1,4 +1,4 @@
--- The report's lines (01, "The report program" and "Settled runs"; the breadth is that of 02, P6). Every line ends in a newline; all numbers are decimal.
+-- The report's lines (01, "The report program" and "Settled runs"; the breadth is that of 02, P6, the depth that of P7). Every line ends in a newline; all numbers are decimal.
 use Prim.Native.Nat.{ℕ, zero, suc, _+_, _*_, _/_, _%_, _≤_, _<_}
 use Prim.Native.Char.{code}
 use Prim.Native.String.{String}
@@ -39,21 +39,25 @@ unfoldable pub refusalLine : Refusal → List ℕ
 refusalLine r =
     tagged "refused " (r .number) ++ (tagged " function " (r .function) ++ (tagged " node " (r .node) ++ newline))
 
--- `value 4 work 11 span 11 forks 0`, after the machine's name
+-- 02, P7: "The report's value lines end with ` deep 2` for table A, and stop lines gain the same field at their end."
+unfoldable pub depthField : ℕ → List ℕ
+depthField deepest = tagged " deep " deepest ++ newline
+
+-- `value 4 work 11 span 11 forks 0 deep 2`, after the machine's name
 unfoldable pub valueLine : ℕ → Counts → List ℕ
 valueLine v counts =
     tagged "value " v
     ++ (tagged " work " (counts .work .0)
     ++ (tagged " span " (counts .span .0)
-    ++ (tagged " forks " (counts .forks) ++ newline)))
+    ++ (tagged " forks " (counts .forks) ++ depthField (counts .deepest))))
 
--- `stop 20 function 0 node 6 transitions 10`, after the machine's name
+-- `stop 20 function 0 node 6 transitions 10 deep 2`, after the machine's name
 unfoldable pub stopLine : Stop → List ℕ
 stopLine s =
     tagged "stop " (s .number)
     ++ (tagged " function " (s .function)
     ++ (tagged " node " (s .node)
-    ++ (tagged " transitions " (s .transitions) ++ newline)))
+    ++ (tagged " transitions " (s .transitions) ++ depthField (s .deepest))))
 
 -- what follows a machine's name, in the words of its case. No report has a refusal here: its first machine is refused then, too, and its
 -- one line is the refusal's

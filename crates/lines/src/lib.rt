@@ -11,7 +11,7 @@ ghost use mathlib.Core.List.{_++_};
 ghost use Prim.Native.Nat.{_+_, _%_, _≤_};
 ghost use lib.ListN.{length};
 ghost use Rattle.language.specs.Values.{SpanPositive, WorkAtMost};
-ghost use Rattle.lines.specs.Lines.{decimal, refusalLine, valueLine, stopLine, answerLine, breadthOf, decimals, quotientLine, breadthLine, reportLines};
+ghost use Rattle.lines.specs.Lines.{decimal, refusalLine, depthField, valueLine, stopLine, answerLine, breadthOf, decimals, quotientLine, breadthLine, reportLines};
 ghost use Rattle.lines.specs.Buffer.{Wrote};
 
 // Writes a text from byte `at` on, and answers where it ends.
@@ -47,10 +47,20 @@ pub fn refusal_line(out: &mut [u8], at: usize, refusal: Refusal) -> usize
     put(out, three, b"\n")
 }
 
+// The last field of a value's line and of a stop's, the depth, with the line's end.
+fn depth_field(out: &mut [u8], at: usize, deepest: usize) -> usize
+    requires { ⌜ at + 27 ≤ length (now out) ⌝ }
+    ensures wrote { λ r. ⌜ Wrote (now (out .entry)) at (depthField deepest) (now (out .exit)) r ⌝ }
+    ensures short { λ r. ⌜ r ≤ at + 27 ⌝ }
+{
+    let one = number(out, at, b" deep ", deepest as u64);
+    put(out, one, b"\n")
+}
+
 fn value_line(out: &mut [u8], at: usize, v: u64, counts: Counts) -> usize
-    requires { ⌜ (at + 106 ≤ length (now out)) ⌝ }
+    requires { ⌜ (at + 132 ≤ length (now out)) ⌝ }
     ensures wrote { λ r. ⌜ Wrote (now (out .entry)) at (valueLine v counts) (now (out .exit)) r ⌝ }
-    ensures short { λ r. ⌜ r ≤ at + 106 ⌝ }
+    ensures short { λ r. ⌜ r ≤ at + 132 ⌝ }
 {
     let work = counts.work;
     let span = counts.span;
@@ -58,26 +68,26 @@ fn value_line(out: &mut [u8], at: usize, v: u64, counts: Counts) -> usize
     let two = number(out, one, b" work ", work.0);
     let three = number(out, two, b" span ", span.0);
     let four = number(out, three, b" forks ", counts.forks);
-    put(out, four, b"\n")
+    depth_field(out, four, counts.deepest)
 }
 
 fn stop_line(out: &mut [u8], at: usize, s: Stop) -> usize
-    requires { ⌜ (at + 115 ≤ length (now out)) ⌝ }
+    requires { ⌜ (at + 141 ≤ length (now out)) ⌝ }
     ensures wrote { λ r. ⌜ Wrote (now (out .entry)) at (stopLine s) (now (out .exit)) r ⌝ }
-    ensures short { λ r. ⌜ r ≤ at + 115 ⌝ }
+    ensures short { λ r. ⌜ r ≤ at + 141 ⌝ }
 {
     let one = number(out, at, b"stop ", s.number as u64);
     let two = number(out, one, b" function ", s.function as u64);
     let three = number(out, two, b" node ", s.node as u64);
     let four = number(out, three, b" transitions ", s.transitions);
-    put(out, four, b"\n")
+    depth_field(out, four, s.deepest)
 }
 
 // A machine's name, with a space after it, and what it answered.
 fn line(out: &mut [u8], at: usize, name: &[u8], answer: Answer) -> usize
-    requires { ⌜ (at + 126 ≤ length (now out)) × (length (now name) ≤ 11) ⌝ }
+    requires { ⌜ (at + 152 ≤ length (now out)) × (length (now name) ≤ 11) ⌝ }
     ensures wrote { λ r. ⌜ Wrote (now (out .entry)) at (now (name .entry) ++ answerLine answer) (now (out .exit)) r ⌝ }
-    ensures short { λ r. ⌜ r ≤ at + 126 ⌝ }
+    ensures short { λ r. ⌜ r ≤ at + 152 ⌝ }
 {
     let after = put(out, at, name);
     match answer {

@@ -33,18 +33,21 @@ slice-aggregate-number-4 c = search needs
 number-requires-4 : tie.Need-number-requires-4
 number-requires-4 c κs = search needs
 
-slice-aggregate-put : tie.Need-slice-aggregate-put
-slice-aggregate-put c = search needs
-
-put-requires : tie.Need-put-requires
-put-requires c κs = search needs
+depth-field-requires : tie.Need-depth-field-requires
+depth-field-requires c κs = search needs
 
 same-length : tie.Need-same-length
 same-length c = search needs
 
 returns : tie.Need-returns
 unfolding stopLine
-returns c = (then (c .before .before .before .before .before .before .before .before .before .before .before .before .before .before .before .before .before .before .before .before .before .before .number .ensures .0) (then (c .before .before .before .before .before .before .before .before .before .before .before .before .before .before .before .before .before .number2 .ensures .0) (then (c .before .before .before .before .before .before .before .before .before .before .before .before .number3 .ensures .0) (then (c .before .before .before .before .before .before .before .number4 .ensures .0) (c .before .before .put .ensures)))), omega (arith, c .before .before .before .before .before .before .before .before .before .before .before .before .before .before .before .before .before .before .before .before .before .before .number .ensures .1, c .before .before .before .before .before .before .before .before .before .before .before .before .before .before .before .before .before .number2 .ensures .1, c .before .before .before .before .before .before .before .before .before .before .before .before .number3 .ensures .1, c .before .before .before .before .before .before .before .number4 .ensures .1, c .before .before .put .ensures .ends))
+returns c =
+    let one = c .before .before .before .before .before .before .before .before .before .before .before .before .before .before .before .before .before .before .before .before .before .number .ensures in
+    let two = c .before .before .before .before .before .before .before .before .before .before .before .before .before .before .before .before .number2 .ensures in
+    let three = c .before .before .before .before .before .before .before .before .before .before .before .number3 .ensures in
+    let four = c .before .before .before .before .before .before .number4 .ensures in
+    let last = c .before .before .depth-field .ensures in
+    (then (one .0) (then (two .0) (then (three .0) (then (four .0) (last .0)))), omega (arith, one .1, two .1, three .1, four .1, last .1))
 
 pub stop-line-spec : {M : Type 1} → statement M
 stop-line-spec =
@@ -59,7 +62,6 @@ stop-line-spec =
     number-requires-3
     slice-aggregate-number-4
     number-requires-4
-    slice-aggregate-put
-    put-requires
+    depth-field-requires
     same-length
     returns)
