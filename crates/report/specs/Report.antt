@@ -8,7 +8,7 @@ use lib.Dec.{leb}
 use Rattle.language.specs.declared.Answer.{Answer}
 use Rattle.language.specs.Answers.{Machine, sequentialOf, parallelOf, heartbeatOf}
 use Rattle.language.specs.Stops.{StopListed}
-use Rattle.language.specs.Claim.{DemandThree}
+use Rattle.language.specs.Claim.{DemandThree, SameDepth}
 use Rattle.language.specs.House.{FivePercent}
 use Rattle.machine.specs.Workspace.{leftBy}
 use Rattle.report.specs.Input.{Job, wordsOf, periodWord, jobOf, complete, whole}
@@ -54,6 +54,11 @@ DemandThreeOf job workspace =
     DemandThree (job .period) (job .tau) (answerTo sequentialOf job workspace) (answerTo parallelOf job workspace)
     (answerTo heartbeatOf job workspace)
 
+-- 02, P7, of the answers that a report tells: "Where the sequential run has a value, all three machines show the same depth."
+abbrev pub SameDepthOf : Job → ℕ → Type 0
+SameDepthOf job workspace =
+    SameDepth (answerTo sequentialOf job workspace) (answerTo parallelOf job workspace) (answerTo heartbeatOf job workspace)
+
 -- 02, P2, of the answers that a report tells: 0 for N means 20 times the τ in use, "which holds the overhead to at most 5 percent of
 -- sequential work"
 abbrev pub FivePercentOf : List ℕ → ℕ → Type 0
@@ -75,4 +80,5 @@ pub record Reported (bytes ws out ws′ out′ : List ℕ) (r : ℕ) : Type 0 wh
   pub workspace : ws′ ≡ cond (leb 512 (length out)) (leftAfter bytes ws) ws
   pub stops : StopsListedOf (jobOf (wordsOf bytes)) (length ws)
   pub demand-3 : DemandThreeOf (jobOf (wordsOf bytes)) (length ws)
+  pub same-depth : SameDepthOf (jobOf (wordsOf bytes)) (length ws)
   pub five-percent : FivePercentOf (wordsOf bytes) (length ws)
