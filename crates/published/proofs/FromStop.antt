@@ -1,9 +1,9 @@
 -- From a derivation of a stop to the flat machine's run: over any stack that holds nothing to promote, after any graph and counts. By induction on the
--- derivation. Letters as in Schedules.antt.
+-- derivation. Letters as in Schedules.antt; `deep` the most frames that were occupied at once.
 use mathlib.Core.Path.{_≡_, refl, ap, _∙_}
 use mathlib.Core.List.{[], _∷_}
 use mathlib.Core.Bool.{Bool, true, false, true≢false, _&&_}
-use Prim.Native.Nat.{ℕ, suc, _+_, _≤_, _<_}
+use Prim.Native.Nat.{ℕ, suc, _+_, _≤_, _<_, max}
 use native.Mathlib.Omega.{arith}
 use lib.ListN.{length, length-append}
 use borrow.Author.Tests.{le-ltb}
@@ -15,11 +15,12 @@ use Rattle.schedule.specs.Runs.{and-then, run}
 use Rattle.schedule.proofs.Moves.{at-code, at-frame, no-frame, no-fork-frame, stuck-is}
 use Rattle.published.specs.CostGraph.{CostGraph}
 use Rattle.published.specs.Judgments.{awaiting-left, PlainStack, can-promote, Transition, is-fork, forks-at}
+use Rattle.published.specs.Resources.{fork-frames}
 use Rattle.published.specs.Stops.{Awaits, at-node, at-ordinary, at-left, at-right, Halts, fuel-spent, no-free-frame, no-frame-to-fork, stuck-at-node, fails-at-frame}
 use Rattle.published.proofs.CostGraph.{_▹_}
-use Rattle.published.proofs.Schedules.{Eval, _⊕_, length-over, promotable-over, born-quiet, ticked}
+use Rattle.published.proofs.Schedules.{Eval, _⊕_, length-over, promotable-over, born-quiet, tall, ticked}
 use Rattle.published.proofs.FromDerivation.{Leads, stay, on, onto, ends-as, Lands, lands, step-quiet, arrive-left, arrive-right, fork-move, promote-move}
-use Rattle.published.proofs.Stopping.{Splits, at-birth, at-promotion, Stops, by-halt, by-no-frame, after-step, in-left, in-right, in-body}
+use Rattle.published.proofs.Stopping.{Splits, at-birth, at-promotion, Stops, by-halt, by-no-frame, after-step, in-left, in-right, in-body, stop-tall}
 
 module _ (M : FrameMachine) (fuel frames : ℕ) where
   -- Where the fuel is spent, a transition stops.
@@ -68,24 +69,26 @@ module _ (M : FrameMachine) (fuel frames : ℕ) where
   halts-at q f (fails-at-frame o e) R n h t l r = stuck-is graphs M fuel frames (at-frame e (omega arith))
 
 module _ (M : FrameMachine) (fuel frames : ℕ) (m : Schedule) where
-  -- The run from s ends in a stop, after k transitions in all.
-  pub record Halted (s : State graphs M) (i : ℕ) (p : Place) (k : ℕ) : Type 0 where
+  -- The run from s ends in a stop, after k transitions and with `deep` frames at the deepest, in all.
+  pub record Halted (s : State graphs M) (i : ℕ) (p : Place) (k deep : ℕ) : Type 0 where
     pub j : ℕ
     pub g : Graph
     pub t : RunCounts
     pub goes : run (step graphs M fuel frames m) j s ≡ ended (stop i p) g t
     pub transitions : t .transitions ≡ k
+    pub deepest : t .deepest ≡ deep
 
   at-once : {s : State graphs M} {i : ℕ} {p : Place} (h : Graph) (t : RunCounts) → step graphs M fuel frames m s ≡ ended (stop i p) h t
-      → Halted s i p (t .transitions)
+      → Halted s i p (t .transitions) (t .deepest)
   unfolding run and-then
-  at-once h t e = record { j = 1; g = h; t = t; goes = rw e; transitions = refl }
+  at-once h t e = record { j = 1; g = h; t = t; goes = rw e; transitions = refl; deepest = refl }
 
   -- After other steps.
-  later : {s u : State graphs M} {i : ℕ} {p : Place} {k k' : ℕ} → Leads M fuel frames m s u → Halted u i p k → k ≡ k' → Halted s i p k'
-  later a b e =
+  later : {s u : State graphs M} {i : ℕ} {p : Place} {k k' deep deep' : ℕ} → Leads M fuel frames m s u → Halted u i p k deep → k ≡ k'
+      → deep ≡ deep' → Halted s i p k' deep'
+  later a b e d =
       let r = ends-as M fuel frames m a (b .j) _ (b .goes) in
-      record { j = r .0; g = b .g; t = b .t; goes = r .1; transitions = b .transitions ∙ e }
+      record { j = r .0; g = b .g; t = b .t; goes = r .1; transitions = b .transitions ∙ e; deepest = b .deepest ∙ d }
 
   one : {s u : State graphs M} → step graphs M fuel frames m s ≡ ongoing u → Leads M fuel frames m s u
   one e = on e stay
@@ -104,9 +107,10 @@ module _ (M : FrameMachine) (fuel frames : ℕ) (m : Schedule) where
       onto M fuel frames m (a .goes) (one (arrive-right M fuel frames m w u X (a .n) h l g b (a .t')))
 
   -- What a derivation promises.
-  pub record Halting (left own : ℕ) (c : Control (M .Code)) (S : PlainStack M) (n i : ℕ) (p : Place) (k : ℕ) : Type 0 where
+  pub record Halting (left own : ℕ) (c : Control (M .Code)) (S : PlainStack M) (n i : ℕ) (p : Place) (k deep : ℕ) : Type 0 where
     pub to : (R : Stack graphs M) → promotable R ≡ false → (h : Graph) (t : RunCounts) → t .transitions + left ≡ fuel → length R + own ≡ frames
-        → length S + length R ≤ t .deepest → Halted (state c (S ⊕ R) n h t) i p (t .transitions + k)
+        → length S + length R ≤ t .deepest
+        → Halted (state c (S ⊕ R) n h t) i p (t .transitions + k) (max (t .deepest) (length R + deep))
 
   -- The state after a split.
   pub record Split (c d : Control (M .Code)) (S N Y : PlainStack M) (b : M .Fork) (n : ℕ) (R : Stack graphs M) (h : Graph) (t : RunCounts)
@@ -114,7 +118,7 @@ module _ (M : FrameMachine) (fuel frames : ℕ) (m : Schedule) where
     pub t' : RunCounts
     pub goes : step graphs M fuel frames m (state c (S ⊕ R) n h t) ≡ ongoing (state d (N ⊕ (promoted-left h b ∷ (Y ⊕ R))) 0 empty t')
     pub transitions : t' .transitions ≡ t .transitions
-    pub deepest : length N + suc (length Y + length R) ≤ t' .deepest
+    pub deepest : t' .deepest ≡ max (t .deepest) (length N + suc (length Y + length R))
 
   splits-at : {c d : Control (M .Code)} {S N Y : PlainStack M} {b : M .Fork} {n : ℕ} → Splits M m c S n d N b Y
       → (R : Stack graphs M) → promotable R ≡ false → (h : Graph) (t : RunCounts) → length R + length Y < frames
@@ -149,26 +153,28 @@ module _ (M : FrameMachine) (fuel frames : ℕ) (m : Schedule) where
     abbrev first : Split c d S N Y b n R h t
     first = splits-at x R hr h t r dp
 
-    left-halts : {left free i : ℕ} {p : Place} {k : ℕ} → Halting left free d N 0 i p k → t .transitions + left ≡ fuel
-        → length R + (length Y + 1 + free) ≡ frames → Halted s0 i p (t .transitions + k)
+    left-halts : {left free i : ℕ} {p : Place} {k deep : ℕ} → Halting left free d N 0 i p k deep → length N ≤ deep
+        → t .transitions + left ≡ fuel → length R + (length Y + 1 + free) ≡ frames
+        → Halted s0 i p (t .transitions + k) (max (t .deepest) (length R + (length Y + 1 + deep)))
     unfolding promotable
-    left-halts a l z =
+    left-halts a ln l z =
         let ly = length-over Y R in
         let f = first in
-        later (one (f .goes)) (a .to above refl empty (f .t') (omega arith) (omega arith) (omega arith)) (omega arith)
+        later (one (f .goes)) (a .to above refl empty (f .t') (omega arith) (omega arith) (omega arith)) (omega arith) (omega arith)
 
     -- The left machine comes to its value, and the right one starts.
-    record Turned (u : ℕ) (g : CostGraph) (k1 : ℕ) : Type 0 where
+    record Turned (u : ℕ) (g : CostGraph) (k1 p1 : ℕ) : Type 0 where
       t' : RunCounts
       goes : Leads M fuel frames m s0 (state (evaluate (M .right b)) (promoted-right h (empty ▹ g) b u ∷ (Y ⊕ R)) 0 empty t')
       transitions : t' .transitions ≡ t .transitions + k1
-      deepest : suc (length Y + length R) ≤ t' .deepest
+      deepest : t' .deepest ≡ max (t .deepest) (suc (length Y + length R) + p1)
 
     turned : {u : ℕ} {g : CostGraph} {k1 p1 : ℕ} → Eval M m d N 0 u g k1 p1 → length R + (length Y + 1 + p1) ≤ frames
-        → t .transitions + k1 ≤ fuel → Turned u g k1
+        → t .transitions + k1 ≤ fuel → Turned u g k1 p1
     unfolding promotable
     turned {u} {g} {k1} {p1} e hp l =
         let ly = length-over Y R in
+        let ln = tall e in
         let f = first in
         let a = lands M fuel frames m e .to above refl empty (f .t') (omega arith) (omega arith) (omega arith) in
         record {
@@ -178,20 +184,22 @@ module _ (M : FrameMachine) (fuel frames : ℕ) (m : Schedule) where
           deepest = omega arith;
         }
 
-    right-halts : {u : ℕ} {g : CostGraph} {k1 p1 left free i : ℕ} {p : Place} {k : ℕ} → Eval M m d N 0 u g k1 p1 → p1 ≤ free
-        → Halting left free (evaluate (M .right b)) [] 0 i p k → t .transitions + (k1 + left) ≡ fuel
-        → length R + (length Y + 1 + free) ≡ frames → Halted s0 i p (t .transitions + (k1 + k))
+    right-halts : {u : ℕ} {g : CostGraph} {k1 p1 left free i : ℕ} {p : Place} {k deep : ℕ} → Eval M m d N 0 u g k1 p1 → p1 ≤ free
+        → Halting left free (evaluate (M .right b)) [] 0 i p k deep → t .transitions + (k1 + left) ≡ fuel
+        → length R + (length Y + 1 + free) ≡ frames
+        → Halted s0 i p (t .transitions + (k1 + k)) (max (t .deepest) (length R + (length Y + 1 + max p1 deep)))
     unfolding promotable
     right-halts {u} {g} e hp a l z =
         let ly = length-over Y R in
         let f = turned e (omega arith) (omega arith) in
         later (f .goes)
         (a .to (promoted-right h (empty ▹ g) b u ∷ (Y ⊕ R)) refl empty (f .t') (omega arith) (omega arith) (omega arith)) (omega arith)
+        (omega arith)
 
-    body-halts : {u w : ℕ} {g1 g2 : CostGraph} {k1 p1 k2 p2 left own i : ℕ} {p : Place} {k : ℕ} → Eval M m d N 0 u g1 k1 p1
+    body-halts : {u w : ℕ} {g1 g2 : CostGraph} {k1 p1 k2 p2 left own i : ℕ} {p : Place} {k deep : ℕ} → Eval M m d N 0 u g1 k1 p1
         → length Y + 1 + p1 ≤ own → Eval M m (evaluate (M .right b)) [] 0 w g2 k2 p2 → length Y + 1 + p2 ≤ own
-        → Halting left own (evaluate (M .body b u w)) Y 0 i p k → t .transitions + (k1 + k2 + left) ≡ fuel → length R + own ≡ frames
-        → Halted s0 i p (t .transitions + (k1 + k2 + k))
+        → Halting left own (evaluate (M .body b u w)) Y 0 i p k deep → t .transitions + (k1 + k2 + left) ≡ fuel → length R + own ≡ frames
+        → Halted s0 i p (t .transitions + (k1 + k2 + k)) (max (t .deepest) (length R + fork-frames (length Y) p1 p2 deep))
     unfolding promotable
     body-halts {u} {w} {g1} {g2} e1 h1 e2 h2 a l o =
         let ly = length-over Y R in
@@ -199,32 +207,32 @@ module _ (M : FrameMachine) (fuel frames : ℕ) (m : Schedule) where
         let z = lands M fuel frames m e2 .to (promoted-right h (empty ▹ g1) b u ∷ (Y ⊕ R)) refl empty (f .t') (omega arith) (omega arith)
         (omega arith) in
         later (onto M fuel frames m (f .goes) (then-body z))
-        (a .to R hr (fork h (empty ▹ g1) (empty ▹ g2)) (z .t') (omega arith) (omega arith) (omega arith)) (omega arith)
+        (a .to R hr (fork h (empty ▹ g1) (empty ▹ g2)) (z .t') (omega arith) (omega arith) (omega arith)) (omega arith) (omega arith)
 
-  step-halts : {left own : ℕ} {c d : Control (M .Code)} {S T : PlainStack M} {n i : ℕ} {p : Place} {k : ℕ}
+  step-halts : {left own : ℕ} {c d : Control (M .Code)} {S T : PlainStack M} {n i : ℕ} {p : Place} {k deep : ℕ}
       → promotion-due m n (can-promote S) ≡ false → promoted-at-birth m && forks-at M c ≡ false → Transition M c S d T → length T ≤ own
-      → Halting left own d T (n + 1) i p k → Halting (left + 1) own c S n i p (k + 1)
-  step-halts {c = c} {S = S} {n = n} q f x lt a = record {
+      → length T ≤ deep → Halting left own d T (n + 1) i p k deep → Halting (left + 1) own c S n i p (k + 1) (max (length S) deep)
+  step-halts {c = c} {S = S} {n = n} q f x lt td a = record {
     to = λ R hr h t l r dp.
         let z = ticked M fuel frames (promoted-at-birth m) f x R n h t (omega arith) (omega arith) dp in
         later (one (step-quiet M fuel frames m c (S ⊕ R) n h t _ (rw (promotable-over S R hr) q) (z .goes)))
-        (a .to R hr (transition h) (z .t') (omega arith) (omega arith) (omega arith)) (omega arith);
+        (a .to R hr (transition h) (z .t') (omega arith) (omega arith) (omega arith)) (omega arith) (omega arith);
   }
 
-  pub halting : {left own : ℕ} {c : Control (M .Code)} {S : PlainStack M} {n i : ℕ} {p : Place} {k : ℕ} → Stops M m left own c S n i p k
-      → Halting left own c S n i p k
+  pub halting : {left own : ℕ} {c : Control (M .Code)} {S : PlainStack M} {n i : ℕ} {p : Place} {k deep : ℕ}
+      → Stops M m left own c S n i p k deep → Halting left own c S n i p k deep
   halting (by-halt {c = c} {S = S} {n = n} q f x) = record {
     to = λ R hr h t l r dp.
         later stay (at-once h t (step-quiet M fuel frames m c (S ⊕ R) n h t _ (rw (promotable-over S R hr) q)
-        (halts-at M fuel frames (promoted-at-birth m) f x R n h t l r))) (omega arith);
+        (halts-at M fuel frames (promoted-at-birth m) f x R n h t l r))) (omega arith) (omega arith);
   }
   halting (by-no-frame {c = c} {S = S} {n = n} q e z) = record {
     to = λ R hr h t l r dp.
         let ls = length-over S R in
         later stay (at-once h t (step-quiet M fuel frames m (evaluate c) (S ⊕ R) n h t _ (born-quiet m n (promotable (S ⊕ R)) q)
-        (rw q (stuck-is graphs M fuel frames (no-fork-frame e (λ w. absurd (true≢false w)) (omega arith)))))) (omega arith);
+        (rw q (stuck-is graphs M fuel frames (no-fork-frame e (λ w. absurd (true≢false w)) (omega arith)))))) (omega arith) (omega arith);
   }
-  halting (after-step q f x a lt) = step-halts q f x lt (halting a)
-  halting (in-left x a) = record { to = λ R hr h t l r dp. left-halts x R hr h t (omega arith) dp (halting a) l r }
+  halting (after-step q f x a lt) = step-halts q f x lt (stop-tall a) (halting a)
+  halting (in-left x a) = record { to = λ R hr h t l r dp. left-halts x R hr h t (omega arith) dp (halting a) (stop-tall a) l r }
   halting (in-right x e1 a h1) = record { to = λ R hr h t l r dp. right-halts x R hr h t (omega arith) dp e1 h1 (halting a) l r }
   halting (in-body x e1 e2 a h1 h2) = record { to = λ R hr h t l r dp. body-halts x R hr h t (omega arith) dp e1 h1 e2 h2 (halting a) l r }

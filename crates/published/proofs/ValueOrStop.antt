@@ -43,7 +43,8 @@ module _ (M : FrameMachine) (m : Schedule) where
     pub i : ℕ
     pub p : Place
     pub k : ℕ
-    pub stops : Stops M m fuel frames c S n i p k
+    pub h : ℕ
+    pub stops : Stops M m fuel frames c S n i p k h
 
   abbrev pub Comes : ℕ → ℕ → Control (M .Code) → PlainStack M → ℕ → Type 0
   Comes fuel frames c S n = Valued fuel frames c S n ⊎ Stopped fuel frames c S n
@@ -57,7 +58,7 @@ module _ (M : FrameMachine) (m : Schedule) where
 
   halted : {fuel frames : ℕ} {c : Control (M .Code)} {S : PlainStack M} {n i : ℕ} {p : Place} → promotion-due m n (can-promote S) ≡ false
       → promoted-at-birth m && forks-at M c ≡ false → Halts M fuel frames c S i p → Comes fuel frames c S n
-  halted q f x = inr (record { i = _; p = _; k = 0; stops = by-halt q f x })
+  halted {S = S} q f x = inr (record { i = _; p = _; k = 0; h = length S; stops = by-halt q f x })
 
   -- LEFT, RIGHT AND BODY of a split.
   module _ (a : ℕ) (ih : Below a) {c d : Control (M .Code)} {S N Y : PlainStack M} {b : M .Fork} {n : ℕ} (x : Splits M m c S n d N b Y)
@@ -79,7 +80,8 @@ module _ (M : FrameMachine) (m : Schedule) where
           i = r .i;
           p = r .p;
           k = y .k + z .k + r .k;
-          stops = at-limits (in-body x (y .eval) (z .eval) (r .stops) (omega arith) (omega arith)) (omega arith) refl refl;
+          h = fork-frames (length Y) (y .p) (z .p) (r .h);
+          stops = at-limits (in-body x (y .eval) (z .eval) (r .stops) (omega arith) (omega arith)) (omega arith) refl refl refl;
         })
 
     right-comes : (y : Valued fuel free d N 0) → Comes (fuel - y .k) free (evaluate (M .right b)) [] 0 → Comes fuel frames c S n
@@ -91,12 +93,20 @@ module _ (M : FrameMachine) (m : Schedule) where
           i = r .i;
           p = r .p;
           k = y .k + r .k;
-          stops = at-limits (in-right x (y .eval) (r .stops) (y .holds)) (omega arith) (omega arith) refl;
+          h = length Y + 1 + max (y .p) (r .h);
+          stops = at-limits (in-right x (y .eval) (r .stops) (y .holds)) (omega arith) (omega arith) refl refl;
         })
 
     left-comes : Comes fuel free d N 0 → Comes fuel frames c S n
     left-comes (inl r) = right-comes r (ih (fuel - r .k) free (evaluate (M .right b)) [] 0 (omega arith) (omega arith))
-    left-comes (inr r) = inr (record { i = r .i; p = r .p; k = r .k; stops = at-limits (in-left x (r .stops)) refl (omega arith) refl })
+    left-comes (inr r) =
+        inr (record {
+          i = r .i;
+          p = r .p;
+          k = r .k;
+          h = length Y + 1 + r .h;
+          stops = at-limits (in-left x (r .stops)) refl (omega arith) refl refl;
+        })
 
     split-comes : length N ≤ free → Comes fuel frames c S n
     split-comes l = left-comes (ih fuel free d N 0 (omega arith) l)
@@ -118,7 +128,8 @@ module _ (M : FrameMachine) (m : Schedule) where
         fits = omega arith;
         holds = omega arith;
       })
-  step-comes q f x ls lt (inr r) = inr (record { i = r .i; p = r .p; k = r .k + 1; stops = after-step q f x (r .stops) lt })
+  step-comes {S = S} q f x ls lt (inr r) =
+      inr (record { i = r .i; p = r .p; k = r .k + 1; h = max (length S) (r .h); stops = after-step q f x (r .stops) lt })
 
   -- With no fuel.
   spent : (frames : ℕ) (c : Control (M .Code)) (S : PlainStack M) (n : ℕ) → promotion-due m n (can-promote S) ≡ false
@@ -184,7 +195,7 @@ module _ (M : FrameMachine) (m : Schedule) where
           on true h =
               let l = ltb-true (length S) frames h in
               split-comes a ih (at-birth q e) fuel frames (frames - (length S + 1)) (omega arith) le (omega arith)
-          on false h = inr (record { i = 21; p = M .code-place c; k = 0; stops = by-no-frame q e (none-free frames S h) })
+          on false h = inr (record { i = 21; p = M .code-place c; k = 0; h = length S; stops = by-no-frame q e (none-free frames S h) })
 
       born-at : (c : M .Code) (S : PlainStack M) (o : Next (M .Code) (M .Frame) (M .Fork)) → M .next c ≡ o
           → promotion-due m n (can-promote S) ≡ false → promoted-at-birth m ≡ true → length S ≤ frames → Comes fuel frames (evaluate c) S n

@@ -1,5 +1,7 @@
 -- What a derivation of a judgment uses: its transitions, and the most frames that it occupies at once. A step is one transition. A fork is none, and
 -- its frame is occupied until its join: above the frames that the body goes on with, and below those of the branch that runs.
+-- The depth that a value or a stop tells (02, P7) is this height of its derivation: `seq-frames` and so on for a value (theorem `adequate`, field
+-- `deepest-is`), the last index of the families of Stops.antt for a stop (theorem `stop-iff-derived`).
 use Prim.Native.Nat.{ℕ, _+_, max}
 use lib.ListN.{length}
 use Rattle.schedule.specs.FrameMachine.{Control, FrameMachine}
