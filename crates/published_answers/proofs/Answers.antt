@@ -40,12 +40,12 @@ counts-of other (Stopped s) = other
 counts-of other (Refused r) = other
 
 -- What is told are numbers, in whatever way they are written.
-same-counts : {a b c d a' b' c' d' : ℕ} → a ≡ a' → b ≡ b' → c ≡ c' → d ≡ d' → countsOf a b c d ≡ countsOf a' b' c' d'
-same-counts a b c d = rw (a, b, c, d)
+same-counts : {a b c d e a' b' c' d' e' : ℕ} → a ≡ a' → b ≡ b' → c ≡ c' → d ≡ d' → e ≡ e' → countsOf a b c d e ≡ countsOf a' b' c' d' e'
+same-counts a b c d e = rw (a, b, c, d, e)
 
-same-stop : {i f n t : ℕ} (s : Stop) → i ≡ s .number → f ≡ s .function → n ≡ s .node → t ≡ s .transitions
-    → stopped i (record { function = f; node = n }) t ≡ Stopped s
-same-stop s a b c d = rw (a, b, c, d)
+same-stop : {i f n t h : ℕ} (s : Stop) → i ≡ s .number → f ≡ s .function → n ≡ s .node → t ≡ s .transitions → h ≡ s .deepest
+    → stopped i (record { function = f; node = n }) t h ≡ Stopped s
+same-stop s a b c d e = rw (a, b, c, d, e)
 
 at-frames : {J : Judgment} {fuel frames frames' τ v : ℕ} {k : Counts} → Counted J fuel frames τ v k → frames ≡ frames'
     → Counted J fuel frames' τ v k
@@ -59,12 +59,15 @@ module _ (m : Schedule) (w arguments : List ℕ) (fuel τ workspace : ℕ) where
   ran = outcome graphs (language w) fuel (framesIn workspace) m (entryCode arguments)
 
   counted : {v : ℕ} {g : Graph} {t : machine.RunCounts} {k : Counts} → Told J fuel (framesIn workspace) v g t
-      → countsOf (t .transitions) (t .forks) (work τ g) (span τ g) ≡ k → Counted J fuel (framesIn workspace) τ v k
+      → countsOf (t .transitions) (t .forks) (work τ g) (span τ g) (t .deepest) ≡ k → Counted J fuel (framesIn workspace) τ v k
   counted {g = g} {t = t} d e =
       let c = d .reaches .graph in
       let paid : work τ g ≡ work-of τ c = ap (work τ) (d .graph-is) ∙ work-flat τ c in
       let long : span τ g ≡ span-of τ c = ap (span τ) (d .graph-is) ∙ span-flat τ c in
-      record { reaches = d .reaches; counts-are = sym e ∙ same-counts (d .transitions-are) (d .forks-are) (omega arith) (omega arith) }
+      record {
+        reaches = d .reaches;
+        counts-are = sym e ∙ same-counts (d .transitions-are) (d .forks-are) (omega arith) (omega arith) (d .deepest-is);
+      }
 
   from-run : (v : ℕ) (k : Counts) (o : Result graphs (language w)) → ran ≡ o → toldBy τ o ≡ Value v k
       → Counted J fuel (framesIn workspace) τ v k
@@ -85,7 +88,7 @@ module _ (m : Schedule) (w arguments : List ℕ) (fuel τ workspace : ℕ) where
       let e = adequate (language w) fuel (framesIn workspace) m (entryCode arguments) v (flat g) t .1
       (record { reaches = c .reaches; graph-is = refl; transitions-are = refl; forks-are = refl; deepest-is = refl }) in
       ap (toldBy τ) e
-      ∙ ap (Value v) (same-counts refl refl (omega (arith, work-flat τ g)) (omega (arith, span-flat τ g)) ∙ sym (c .counts-are))
+      ∙ ap (Value v) (same-counts refl refl (omega (arith, work-flat τ g)) (omega (arith, span-flat τ g)) refl ∙ sym (c .counts-are))
 
 module _ (m : Schedule) (w arguments : List ℕ) (fuel τ workspace : ℕ) where
   abbrev Derives : Stop → Type 0
@@ -95,15 +98,17 @@ module _ (m : Schedule) (w arguments : List ℕ) (fuel τ workspace : ℕ) where
   ends-here = outcome graphs (language w) fuel (framesIn workspace) m (entryCode arguments)
 
   named : {g : Graph} {t : machine.RunCounts} (s : Stop) (i : ℕ) (p : Place) → ends-here ≡ ended (stop i p) g t
-      → _≡_ {A = Stop} (record { number = i; function = p .function; node = p .node; transitions = t .transitions }) s → Derives s
+      → _≡_ {A = Stop} (record { number = i; function = p .function; node = p .node; transitions = t .transitions; deepest = t .deepest }) s
+      → Derives s
   named {g} {t} s i p e q =
-      let a : StopsSo ends-here i p (t .transitions) = record { ends = record { cost = g; counts = t; is = e }; transitions-are = refl } in
+      let a : StopsSo ends-here i p (t .transitions) (t .deepest)
+      = record { ends = record { cost = g; counts = t; is = e }; transitions-are = refl; deepest-is = refl } in
       let function = ap (λ x. x .function) q in
       let node = ap (λ x. x .node) q in
       let place : p ≡ placeOf s = same-place (omega arith) (omega arith) in
-      let told : StopsSo ends-here (s .number) (placeOf s) (s .transitions)
-      = rw (ap (λ x. x .number) q, place, ap (λ x. x .transitions) q) at a in
-      stop-iff-derived (language w) fuel (framesIn workspace) m (entryCode arguments) (s .number) (placeOf s) (s .transitions) .0 told
+      let told : StopsSo ends-here (s .number) (placeOf s) (s .transitions) (s .deepest)
+      = rw (ap (λ x. x .number) q, place, ap (λ x. x .transitions) q, ap (λ x. x .deepest) q) at a in
+      stop-iff-derived (language w) fuel (framesIn workspace) m (entryCode arguments) (s .number) (placeOf s) (s .transitions) (s .deepest) .0 told
 
   stop-from-run : (s : Stop) (o : Result graphs (language w)) → ends-here ≡ o → toldBy τ o ≡ Stopped s → Derives s
   unfolding toldBy stop-of
@@ -118,8 +123,8 @@ module _ (m : Schedule) (w arguments : List ℕ) (fuel τ workspace : ℕ) where
   stop-to-run : (s : Stop) → Derives s → toldBy τ ends-here ≡ Stopped s
   unfolding toldBy
   stop-to-run s d =
-      let a = stop-iff-derived (language w) fuel (framesIn workspace) m (entryCode arguments) (s .number) (placeOf s) (s .transitions) .1 d in
-      ap (toldBy τ) (a .ends .is) ∙ same-stop s refl (omega arith) (omega arith) (a .transitions-are)
+      let a = stop-iff-derived (language w) fuel (framesIn workspace) m (entryCode arguments) (s .number) (placeOf s) (s .transitions) (s .deepest) .1 d in
+      ap (toldBy τ) (a .ends .is) ∙ same-stop s refl (omega arith) (omega arith) (a .transitions-are) (a .deepest-is)
 
 module _ (m : Schedule) (w arguments : List ℕ) (fuel N τ workspace : ℕ) where
   abbrev ran-by : Answer
@@ -177,9 +182,10 @@ published-of m w arguments fuel N τ workspace r e = rw e (by-schedule m w argum
 pub none-beside-stop : NoneBesideStop
 none-beside-stop m w arguments fuel N τ workspace r p s e v d =
     let accepts = p .stop-iff s .0 e .0 in
-    let k : Counts = countsOf (judged m w arguments .transitions (d .derivation)) (fork-count (d .graph)) (work-of τ (d .graph)) (span-of τ (d .graph)) in
+    let k : Counts = countsOf (judged m w arguments .transitions (d .derivation)) (fork-count (d .graph)) (work-of τ (d .graph)) (span-of τ (d .graph))
+    (judged m w arguments .frames (d .derivation)) in
     let c : Counted (judged m w arguments) fuel (framesIn workspace) τ v k
-    = record { reaches = d; counts-are = same-counts refl refl (omega arith) (omega arith) } in
+    = record { reaches = d; counts-are = same-counts refl refl (omega arith) (omega arith) refl } in
     let q = p .value-iff v k .1 ((cc), at-frames c (omega arith)) in
     let no : _≡_ {A = ℕ} 0 1 = cc in
     omega arith

@@ -22,14 +22,14 @@ third : List Answer → Answer
 third [] = unfinished
 third (a ∷ rest) = second rest
 
-by-figure-4 : Counted (judged sequential tableA []) 100 256 2 4 (countsOf 11 0 11 11)
+by-figure-4 : Counted (judged sequential tableA []) 100 256 2 4 (countsOf 11 0 11 11 2)
 unfolding rows answered told first
-by-figure-4 = demand-2 tableA [] 100 3 2 8192 .figure-4 .value-iff 4 (countsOf 11 0 11 11) .0 (ap first settled) .1
+by-figure-4 = demand-2 tableA [] 100 3 2 8192 .figure-4 .value-iff 4 (countsOf 11 0 11 11 2) .0 (ap first settled) .1
 
-by-figure-5 : Counted (judged parallel tableA []) 100 256 2 4 (countsOf 5 2 9 7)
+by-figure-5 : Counted (judged parallel tableA []) 100 256 2 4 (countsOf 5 2 9 7 2)
 unfolding rows answered told first second
-by-figure-5 = demand-2 tableA [] 100 3 2 8192 .figure-5 .value-iff 4 (countsOf 5 2 9 7) .0 (ap second settled) .1
+by-figure-5 = demand-2 tableA [] 100 3 2 8192 .figure-5 .value-iff 4 (countsOf 5 2 9 7 2) .0 (ap second settled) .1
 
-by-figure-6 : Counted (judged (heartbeat 3) tableA []) 100 256 2 4 (countsOf 9 1 11 10)
+by-figure-6 : Counted (judged (heartbeat 3) tableA []) 100 256 2 4 (countsOf 9 1 11 10 2)
 unfolding rows answered told first second third
-by-figure-6 = demand-2 tableA [] 100 3 2 8192 .figure-6 .value-iff 4 (countsOf 9 1 11 10) .0 (ap third settled) .1
+by-figure-6 = demand-2 tableA [] 100 3 2 8192 .figure-6 .value-iff 4 (countsOf 9 1 11 10 2) .0 (ap third settled) .1

@@ -1,7 +1,7 @@
 -- DEMAND 2, as a reader of document 004 can check it: all of an answer, by its three cases. Each machine answers a value iff it accepts its input and the
 -- figure's judgment derives that value within the fuel and the frames of the workspace; the counts in the answer are those of the derivation and of its
--- cost graph. It answers a stop iff it accepts its input and the rules of stops beside that figure derive its number, its place and its transitions. It
--- answers a refusal iff the check gives it. Judgments and stops are in crate `published`, specs/Judgments.antt and specs/Stops.antt, rule by rule.
+-- cost graph. It answers a stop iff it accepts its input and the rules of stops beside that figure derive its number, its place, its transitions and its
+-- depth. It answers a refusal iff the check gives it. Judgments and stops are in crate `published`, specs/Judgments.antt and specs/Stops.antt, rule by rule.
 use Prim.Native.Nat.{ℕ}
 use mathlib.Core.Path.{_≡_}
 use mathlib.Core.List.{List}
@@ -26,18 +26,21 @@ use Rattle.published.specs.StopTheorems.{stops}
 abbrev pub judged : Schedule → List ℕ → List ℕ → Judgment
 judged m w arguments = published (language w) m (entryCode arguments)
 
--- v is derived within the limits, and k counts that derivation: its transitions, and the forks, work and span of its graph (Figure 1).
+-- v is derived within the limits, and k counts that derivation: its transitions, the forks, work and span of its graph (Figure 1), and the most frames that
+-- it occupies at once, which is the depth (02, P7).
 pub record Counted (J : Judgment) (fuel frames τ v : ℕ) (k : Counts) : Type 0 where
   pub reaches : Reaches J fuel frames v
   pub counts-are : k ≡ countsOf (J .transitions (reaches .derivation)) (fork-count (reaches .graph)) (work-of τ (reaches .graph))
-      (span-of τ (reaches .graph))
+      (span-of τ (reaches .graph)) (J .frames (reaches .derivation))
 
--- The place that a stop names, and the derivation of a stop at a table's entry. 01: "The answer is the number, function, node and transitions made."
+-- The place that a stop names, and the derivation of a stop at a table's entry. 01: "The answer is the number, function, node and transitions made.";
+-- 02, P7: and the depth.
 abbrev pub placeOf : Stop → Place
 placeOf s = record { function = s .function; node = s .node }
 
 abbrev pub stops-judged : Schedule → List ℕ → List ℕ → (fuel frames : ℕ) → Stop → Type 0
 stops-judged m w arguments fuel frames s = stops (language w) m (entryCode arguments) fuel frames (s .number) (placeOf s) (s .transitions)
+    (s .deepest)
 
 -- An answer r is that of a schedule's judgment.
 pub record Published (m : Schedule) (w arguments : List ℕ) (fuel N τ workspace : ℕ) (r : Answer) : Type 0 where
