@@ -1,3 +1,4 @@
 -- What the proofs of the functions use.
 mod Serving
+pub mod Writing
 pub mod Claims

@@ -16,7 +16,8 @@ answerBy machine w arguments fuel N τ workspace =
     cond (eqb machine 0) (sequentialOf w arguments fuel N τ workspace)
     (cond (eqb machine 1) (parallelOf w arguments fuel N τ workspace) (heartbeatOf w arguments fuel N τ workspace))
 
--- is this machine one of the three, and is there room for eight words in a buffer of so many?
+-- Is this machine one of the three, and are there eight words at least? An answer had eight at first (its depth came with 02, P7), and they stay
+-- enough.
 unfoldable pub served : ℕ → ℕ → Bool
 served machine room = leb machine 2 && leb 8 room
 

@@ -1,4 +1,4 @@
--- What holds of calls from another language, told by the words that they write: demand 3 of three calls, and what every stop tells. Both are
+-- What holds of calls from another language, told by the words that they write: demand 3 of three calls, their depth, and what every stop tells. All are
 -- proved in proofs/Claims.antt from what `Called` says of a call.
 use Prim.Native.Nat.{ℕ, _+_, _*_, _≤_, _<_}
 use mathlib.Core.Path.{_≡_}
@@ -33,6 +33,9 @@ module _ (out : List ℕ) where
   abbrev pub spanIn : ℕ
   spanIn = getD out 7 0
 
+  abbrev pub deepestIn : ℕ
+  deepestIn = getD out 8 0
+
 -- The four statements of demand 3, of the words that three calls wrote: s the sequential one's, p the parallel one's, h the heartbeat's.
 pub record FourOfWords (N τ : ℕ) (s p h : List ℕ) : Type 0 where
   pub parallel-value : (kindIn p ≡ 0) × (toldIn p ≡ toldIn s)
@@ -61,6 +64,18 @@ ThreeCalls = (w arguments : List ℕ) (fuel N τ workspace : ℕ) (s p h : List 
     → CallWrote 2 w arguments fuel N τ workspace h
     → kindIn s ≡ 0
     → FourOfWords N τ s p h
+
+-- THEOREM (`depth-of-calls`): where three such calls lend nine words or more, they show the same depth (02, P7).
+abbrev pub DepthOfCalls : Type 0
+DepthOfCalls = (w arguments : List ℕ) (fuel N τ workspace : ℕ) (s p h : List ℕ)
+    → CallWrote 0 w arguments fuel N τ workspace s
+    → CallWrote 1 w arguments fuel N τ workspace p
+    → CallWrote 2 w arguments fuel N τ workspace h
+    → 9 ≤ length s
+    → 9 ≤ length p
+    → 9 ≤ length h
+    → kindIn s ≡ 0
+    → (deepestIn p ≡ deepestIn s) × (deepestIn h ≡ deepestIn s)
 
 -- THEOREM (`stop-of-call`): a stop's number is 20 to 24, its function and node are in the table, and its transitions are at most the fuel, and exactly the
 -- fuel for 20.

@@ -1,4 +1,4 @@
--- What a caller from another language must believe: the eight words that tell an answer, and what a call leaves in the lent buffers.
+-- What a caller from another language must believe: the words that tell an answer, and what a call leaves in the lent buffers.
 pub mod Words
 pub mod Calls
 pub mod Claims

@@ -1,45 +1,26 @@
--- The eight words that tell an answer: the kind (0 a value, 1 a stop, 2 a refusal), the value or the number, function, node, transitions,
--- forks, work and span; those that an answer does not have are 0.
-use Prim.Native.Nat.{ℕ}
-use mathlib.Core.List.{List}
-use lib.ListN.{set}
+-- The words that tell an answer, and how they are written.
+use Prim.Native.Nat.{ℕ, _≤_}
+use mathlib.Core.Path.{_≡_}
+use mathlib.Core.List.{List, [], _∷_, _++_}
+use lib.ListN.{length, take, drop}
 use Rattle.language.specs.declared.Answer.{Answer}
 use Rattle.language.specs.declared.Answer.the-variants.{Value, Stopped, Refused}
-use Rattle.capi.specs.declared.Words.{Words}
 
-unfoldable pub answerWords : Answer → Words
-answerWords (Value v counts) = record {
-  kind = 0;
-  told = v;
-  function = 0;
-  node = 0;
-  transitions = counts .transitions;
-  forks = counts .forks;
-  work = counts .work .0;
-  span = counts .span .0;
-}
-answerWords (Stopped s) = record {
-  kind = 1;
-  told = s .number;
-  function = s .function;
-  node = s .node;
-  transitions = s .transitions;
-  forks = 0;
-  work = 0;
-  span = 0;
-}
-answerWords (Refused r) = record {
-  kind = 2;
-  told = r .number;
-  function = r .function;
-  node = r .node;
-  transitions = 0;
-  forks = 0;
-  work = 0;
-  span = 0;
-}
+-- The kind (0 a value, 1 a stop, 2 a refusal), the value or the number, function, node, transitions, forks, work, span and depth; those that an answer
+-- does not have are 0.
+unfoldable pub answerWords : Answer → List ℕ
+answerWords (Value v k) =
+    0 ∷ v ∷ 0 ∷ 0 ∷ k .transitions ∷ k .forks ∷ k .work .0 ∷ k .span .0 ∷ k .deepest ∷ []
+answerWords (Stopped s) =
+    1 ∷ s .number ∷ s .function ∷ s .node ∷ s .transitions ∷ 0 ∷ 0 ∷ 0 ∷ s .deepest ∷ []
+answerWords (Refused r) =
+    2 ∷ r .number ∷ r .function ∷ r .node ∷ 0 ∷ 0 ∷ 0 ∷ 0 ∷ 0 ∷ []
 
--- a list with these for its first eight; the others stay
-unfoldable pub written : List ℕ → Words → List ℕ
-written xs w =
-    set (set (set (set (set (set (set (set xs 0 (w .kind)) 1 (w .told)) 2 (w .function)) 3 (w .node)) 4 (w .transitions)) 5 (w .forks)) 6 (w .work)) 7 (w .span)
+-- A buffer with the words at its front, as many as it has room for; its words after them stay.
+unfoldable pub written : List ℕ → List ℕ → List ℕ
+written out words = take (length out) words ++ drop (length words) out
+
+-- THEOREM (proofs/Writing.antt, `grown-unseen`): HOW AN ANSWER GROWS. A word that a request adds comes after the others. A caller that lends no more words
+-- than there were before it finds what it found before.
+abbrev pub GrownUnseen : Type 0
+GrownUnseen = (out words more : List ℕ) → length out ≤ length words → written out (words ++ more) ≡ written out words

@@ -16,6 +16,9 @@ answered-requires c κs = search needs
 words-of-requires : tie.Need-words-of-requires
 words-of-requires c κs = search needs
 
+slice-aggregate-write : tie.Need-slice-aggregate-write
+slice-aggregate-write c = search needs
+
 write-requires : tie.Need-write-requires
 write-requires c κs = search needs
 
@@ -26,7 +29,11 @@ same-length-2 : tie.Need-same-length-2
 same-length-2 c = search needs
 
 returns-3 : tie.Need-returns-3
-returns-3 c = told (c .before .before .before .before .before .before .before .before .before .before .before .before .before .before .before .args .machine) (c .before .before .before .before .before .before .before .before .before .before .before .before .before .before .before .args .table .now) (c .before .before .before .before .before .before .before .before .before .before .before .before .before .before .before .args .args .now) _ _ _ _ _ (c .before .before .before .before .before .before .before .answered .result) _ _ (serving _ _ (c .before .before .before .before .before .before .before .before .before .before .if1 .left) (c .before .before .before .before .before .before .before .before .before .if2 .left)) (c .before .before .before .before .before .before .before .answered .ensures .0) (c .before .before .before .before .before .before .before .answered .ensures .1) (rw (← c .before .before .before .words-of .ensures) (c .before .before .write .ensures))
+returns-3 c =
+    let a = c .before .before .before .before .before .before .before .before .before .before .before .before .before .before .before .before .args in
+    let r = c .before .before .before .before .before .before .before .before .answered in
+    told (a .machine) (a .table .now) (a .args .now) _ _ _ _ _ (r .result) _ _ (serving _ _ (c .before .before .before .before .before .before .before .before .before .before .before .if1 .left) (c .before .before .before .before .before .before .before .before .before .before .if2 .left)) (r .ensures .0)
+    (r .ensures .1) (rw (← c .before .before .before .before .before .words-of .ensures) (c .before .before .write .ensures))
 
 pub mondupil-run-spec : {M : Type 1} → statement M
 mondupil-run-spec =
@@ -36,6 +43,7 @@ mondupil-run-spec =
     returns-2
     answered-requires
     words-of-requires
+    slice-aggregate-write
     write-requires
     same-length
     same-length-2

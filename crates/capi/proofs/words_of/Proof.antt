@@ -10,18 +10,18 @@ enum-known-answer c = search needs
 enum-known-answer-2 : tie.Need-enum-known-answer-2
 enum-known-answer-2 c = search needs
 
-cast-t7 : tie.Need-cast-t7
-cast-t7 c = search needs
+cast-t10 : tie.Need-cast-t10
+cast-t10 c = search needs
 
 enum-known-answer-3 : tie.Need-enum-known-answer-3
 enum-known-answer-3 c = search needs
 
-cast-t10 : tie.Need-cast-t10
-cast-t10 c = search needs
+cast-t14 : tie.Need-cast-t14
+cast-t14 c = search needs
 
 returns : tie.Need-returns
 unfolding answerWords
-returns c = rw (c .before .answer .given .1)
+returns c = rw (c .before .before .before .answer .given .1)
 
 returns-2 : tie.Need-returns-2
 unfolding answerWords
@@ -37,9 +37,9 @@ words-of-spec =
     (tie.spec
     enum-known-answer
     enum-known-answer-2
-    cast-t7
-    enum-known-answer-3
     cast-t10
+    enum-known-answer-3
+    cast-t14
     returns
     returns-2
     returns-3)
