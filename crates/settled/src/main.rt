@@ -22,12 +22,14 @@ fn line(run: &[u8], machine: &[u8], answer: Answer) {
             number(b" span ", span.0);
             number(b" forks ", counts.forks);
             number(b" transitions ", counts.transitions);
+            number(b" deep ", counts.deepest as u64);
         }
         Answer::Stopped(stop) => {
             number(b" stop ", stop.number as u64);
             number(b" function ", stop.function as u64);
             number(b" node ", stop.node as u64);
             number(b" transitions ", stop.transitions);
+            number(b" deep ", stop.deepest as u64);
         }
         Answer::Refused(refusal) => {
             number(b" refused ", refusal.number as u64);
