@@ -11,6 +11,11 @@ ghost use Rattle.machine.specs.Workspace.{leftBy};
 ghost use Rattle.capi.specs.Words.{answerWords, written};
 ghost use Rattle.capi.specs.Calls.{answerBy, Called};
 
+// What a call returns: it was served, or it was turned away and changed nothing.
+const SERVED: u32 = 0;
+
+const TURNED_AWAY: u32 = 1;
+
 // The words that tell an answer, in their order: kind, value or number, function, node, transitions, forks, work, span, depth.
 fn words_of(answer: Answer) -> [u64; 9]
     ensures { λ r. ⌜ r ≡ answerWords answer ⌝ }
@@ -31,28 +36,24 @@ fn words_of(answer: Answer) -> [u64; 9]
                 k.deepest as u64,
             ]
         }
-        Answer::Stopped(s) => [
-            1,
-            s.number as u64,
-            s.function as u64,
-            s.node as u64,
-            s.transitions,
-            0,
-            0,
-            0,
-            s.deepest as u64,
-        ],
-        Answer::Refused(r) => [
-            2,
-            r.number as u64,
-            r.function as u64,
-            r.node as u64,
-            0,
-            0,
-            0,
-            0,
-            0,
-        ],
+        Answer::Stopped(s) => {
+            let number = s.number as u64;
+            [
+                1,
+                number,
+                s.function as u64,
+                s.node as u64,
+                s.transitions,
+                0,
+                0,
+                0,
+                s.deepest as u64,
+            ]
+        }
+        Answer::Refused(r) => {
+            let number = r.number as u64;
+            [2, number, r.function as u64, r.node as u64, 0, 0, 0, 0, 0]
+        }
     }
 }
 
@@ -105,13 +106,13 @@ pub extern "C" fn mondupil_run(
     ensures { λ r. ⌜ Called machine (now (table .entry)) (now (args .entry)) fuel period tau (now (workspace .entry)) (now (answer .entry)) (now (workspace .exit)) (now (answer .exit)) r ⌝ }
 {
     if 2 < machine {
-        return 1;
+        return TURNED_AWAY;
     }
     if answer.len() < 8 {
-        return 1;
+        return TURNED_AWAY;
     }
     let told = answered(machine, table, args, fuel, period, tau, workspace);
     let words = words_of(told);
     write(answer, &words);
-    0
+    SERVED
 }

@@ -10,14 +10,14 @@ enum-known-answer c = search needs
 enum-known-answer-2 : tie.Need-enum-known-answer-2
 enum-known-answer-2 c = search needs
 
-cast-t10 : tie.Need-cast-t10
-cast-t10 c = search needs
+cast-number : tie.Need-cast-number
+cast-number c = search needs
 
 enum-known-answer-3 : tie.Need-enum-known-answer-3
 enum-known-answer-3 c = search needs
 
-cast-t14 : tie.Need-cast-t14
-cast-t14 c = search needs
+cast-number-2 : tie.Need-cast-number-2
+cast-number-2 c = search needs
 
 returns : tie.Need-returns
 unfolding answerWords
@@ -37,9 +37,9 @@ words-of-spec =
     (tie.spec
     enum-known-answer
     enum-known-answer-2
-    cast-t10
+    cast-number
     enum-known-answer-3
-    cast-t14
+    cast-number-2
     returns
     returns-2
     returns-3)
