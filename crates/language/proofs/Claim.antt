@@ -110,8 +110,8 @@ module _ (m : Schedule) (w arguments : List ℕ) (fuel τ workspace v : ℕ) (a 
 pub same-depth : DepthForEveryInput
 same-depth w arguments fuel N τ workspace = record {
   at-a-value = λ v a q. (
-    depth-of parallel w arguments fuel τ workspace v a N q,
-    depth-of (heartbeat N) w arguments fuel τ workspace v a N q,
+    omega (arith, depth-of parallel w arguments fuel τ workspace v a N q),
+    omega (arith, depth-of (heartbeat N) w arguments fuel τ workspace v a N q),
   );
 }
 

@@ -134,12 +134,14 @@ module _ (m : Schedule) (w arguments : List ℕ) (fuel τ : ℕ) where
 
 pub depths-within : DepthsWithin
 unfolding answerOf
-depths-within m w arguments fuel N τ workspace = check-within m w arguments fuel τ workspace (checkedOf w (length arguments) fuel N τ workspace)
+depths-within m w arguments fuel N τ workspace =
+    let within = check-within m w arguments fuel τ workspace (checkedOf w (length arguments) fuel N τ workspace) in
+    omega (arith, within)
 
 pub full-at-stop-21 : FullAtStop21
 unfolding answerOf
 full-at-stop-21 m w arguments fuel N τ workspace s e h =
-    full-check m w arguments fuel τ workspace s (checkedOf w (length arguments) fuel N τ workspace) e h
+    full-check m w arguments fuel τ workspace s (checkedOf w (length arguments) fuel N τ workspace) e (omega (arith, h))
 
 -- A value's workspace, of another number of frames.
 resized : {w : List ℕ} {count fuel N τ workspace : ℕ} → Admitted w count fuel N τ workspace → (k : ℕ) → 1 ≤ k → k ≤ 4096
@@ -156,7 +158,7 @@ resized a k least most = record {
 
 pub just-enough : JustEnough
 unfolding answerOf afterCheck runOf toldBy deepestOf
-just-enough m w arguments fuel N τ workspace v a e k least most = (only, enough)
+just-enough m w arguments fuel N τ workspace v a e k least most = ((λ q. omega (arith, only q)), (λ h. enough (omega (arith, h))))
   where
     frames : framesIn (32 * k) ≡ k
     frames = omega arith

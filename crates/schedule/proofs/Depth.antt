@@ -127,6 +127,6 @@ full-at-21 K M fuel frames m c p g t own e = let a = at-its-end K M fuel frames 
 pub frames-enough : FramesEnough
 unfolding outcome
 frames-enough K M fuel frames others m c v g t e h =
-    let r = again K M fuel frames m others (went K M fuel frames m c e) (begins K M fuel frames c) h in
+    let r = again K M fuel frames m others (went K M fuel frames m c e) (begins K M fuel frames c) (omega (arith, h)) in
     let s = finishes K M fuel others m c in
     s .1 .is ∙ same-end (step K M fuel others m) (moves fuel others) (r .0) (start K M c) (s .1 .is) (r .1)
