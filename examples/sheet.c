@@ -22,8 +22,8 @@ static uint64_t bytes_of(const uint64_t sides[3]) {
     case MONDUPIL_VALUE:
         return t[MONDUPIL_TOLD];
     case MONDUPIL_STOP:
-        printf("stop %" PRIu64 " function %" PRIu64 " node %" PRIu64 " transitions %" PRIu64 ": nothing is reserved\n", t[MONDUPIL_TOLD],
-               t[MONDUPIL_FUNCTION], t[MONDUPIL_NODE], t[MONDUPIL_TRANSITIONS]);
+        printf("stop %" PRIu64 " function %" PRIu64 " node %" PRIu64 " transitions %" PRIu64 " deep %" PRIu64 ": nothing is reserved\n",
+               t[MONDUPIL_TOLD], t[MONDUPIL_FUNCTION], t[MONDUPIL_NODE], t[MONDUPIL_TRANSITIONS], t[MONDUPIL_DEEPEST]);
         exit(2);
     default:
         printf("refused %" PRIu64 " function %" PRIu64 " node %" PRIu64 ": nothing is reserved\n", t[MONDUPIL_TOLD],

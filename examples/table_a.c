@@ -16,7 +16,7 @@ int main(void) {
                 t[MONDUPIL_TOLD], t[MONDUPIL_FUNCTION], t[MONDUPIL_NODE]);
         return 1;
     }
-    printf("value %" PRIu64 " work %" PRIu64 " span %" PRIu64 " forks %" PRIu64 "\n",
-           t[MONDUPIL_TOLD], t[MONDUPIL_WORK], t[MONDUPIL_SPAN], t[MONDUPIL_FORKS]);
+    printf("value %" PRIu64 " work %" PRIu64 " span %" PRIu64 " forks %" PRIu64 " deep %" PRIu64 "\n",
+           t[MONDUPIL_TOLD], t[MONDUPIL_WORK], t[MONDUPIL_SPAN], t[MONDUPIL_FORKS], t[MONDUPIL_DEEPEST]);
     return 0;
 }

@@ -20,12 +20,19 @@ enum { MONDUPIL_SEQUENTIAL = 0, MONDUPIL_PARALLEL = 1, MONDUPIL_HEARTBEAT = 2 };
 /* The kinds of answer. */
 enum { MONDUPIL_VALUE = 0, MONDUPIL_STOP = 1, MONDUPIL_REFUSAL = 2 };
 
-/* The places of the eight words of an answer. MONDUPIL_TOLD is the value, or the number of the stop or of the refusal. Words that an
- * answer does not have are 0: a value has no function and no node, a stop no forks, work and span, a refusal none after its node. */
+/* The places of the words of an answer. MONDUPIL_TOLD is the value, or the number of the stop or of the refusal; MONDUPIL_DEEPEST is the
+ * most frames that were occupied at once, the depth. Words that an answer does not have are 0: a value has no function and no node, a
+ * stop no forks, work and span, a refusal none after its node.
+ *
+ * HOW AN ANSWER GROWS. A later version may add words after the last, and only there: the places above it stay, and MONDUPIL_WORDS, how
+ * many there are, rises. A call writes as many of them as are lent, so that a program compiled with an earlier header, which lends fewer,
+ * finds in those what it always found. MONDUPIL_FEWEST, how many have to be lent, does not rise. */
 enum {
     MONDUPIL_KIND, MONDUPIL_TOLD, MONDUPIL_FUNCTION, MONDUPIL_NODE,
     MONDUPIL_TRANSITIONS, MONDUPIL_FORKS, MONDUPIL_WORK, MONDUPIL_SPAN,
-    MONDUPIL_WORDS
+    MONDUPIL_DEEPEST,
+    MONDUPIL_WORDS,
+    MONDUPIL_FEWEST = 8
 };
 
 /* The numbers of refusals:
@@ -59,16 +66,17 @@ enum {
 
 /* Runs one machine on a job table with arguments. `period` is N and `tau` the price of a fork.
  *
- * Returns 0, and the first eight words of `answer` are the machine's answer; words after the eighth stay. After a value or a stop every
- * word of the workspace is 0; after a refusal the workspace is as it was. For an unknown machine, or fewer than eight answer words, it
- * returns 1 and changes nothing.
+ * Returns 0, and `answer` begins with the words of the machine's answer: all nine, or with a length of 8 the first eight. Words after the
+ * ninth stay, today; lend MONDUPIL_WORDS, and no later version writes more. After a value or a stop every word of the workspace is 0;
+ * after a refusal the workspace is as it was. For an unknown machine, or fewer than eight answer words, it returns 1 and changes nothing.
  *
  * Every input is allowed: what is out of range is refused by a number of the list above. What the caller must see to is C's own: each
  * pointer is not null, even where its length is 0, is aligned and has so many words behind it, and `workspace` and `answer` overlap
  * nothing else. A workspace has 32 words for each frame, and 1 to 4,096 frames.
  *
  * A stop's number is 20 to 24, its function and node are in the table, and its transitions are at most the fuel, and exactly the fuel for
- * 20.
+ * 20. The depth of a value or a stop is at most the frames of the workspace, and exactly these for 21. Beside a value, a workspace of so
+ * many frames as its depth (and at least 1) gives the same answer, as does any larger one; a smaller one does not.
  *
  * Three calls, one of each machine, with the same table, arguments, fuel, period, tau and workspace length, in any order and whatever the
  * workspaces hold: if the sequential machine's answer is a value, then the two others' are the same value, and
@@ -77,7 +85,7 @@ enum {
  *     tau * heartbeat span <= (period + tau) * parallel span
  *     heartbeat work + 2 * heartbeat forks == sequential work + tau * heartbeat forks
  *
- * as whole numbers, with the words of the three answers. */
+ * as whole numbers, with the words of the three answers; and all three have the same depth. */
 uint32_t mondupil_run(uint32_t machine,
                       const uint32_t *table, size_t table_len,
                       const uint64_t *args, size_t args_len,

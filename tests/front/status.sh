@@ -25,7 +25,7 @@ for number in $(awk -F ' *[|] *' '{ print $2 }' bin/numbers.txt); do
 done
 
 # what is no complete report
-for edit in d 1d 4d 2,4d '3s/forks.*//' '1s/value/words/' '$s/$/\nmore/' '2s/parallel/heartbeat/' '4s/[0-9]*$//' '4s/[.].*//' '4s/.$//'; do
+for edit in d 1d 4d 2,4d '3s/forks.*//' '1s/ deep.*//' '2s/deep .*/deep/' '1s/value/words/' '$s/$/\nmore/' '2s/parallel/heartbeat/' '4s/[0-9]*$//' '4s/[.].*//' '4s/.$//'; do
     sed "$edit" examples/table_a.report > "$work/says"
     says "$work/says"
     MONDUPIL=$work/program ends 3 ./report examples/table_a.job

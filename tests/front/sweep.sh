@@ -20,11 +20,11 @@ row_agrees() {
     read -r _ _ _ _ sequential _ _ _ _ < "$work/report"
     # shellcheck disable=SC2046
     set -- "$1" "$sequential" $(sed -n 2p "$work/report") $(sed -n 3p "$work/report") $(awk -v n="$1" '$1 == n' "$work/rows")
-    [ $# -eq 27 ] || return 1
-    # 3: parallel value V work 7 span 9 forks F; 12: heartbeat value V work 16 span 18 forks 20; 21: the row's N forks work most % span most
-    [ "${22}" = "${20}" ] && [ "${23}" = "${16}" ] && [ "${26}" = "${18}" ] || return
-    [ $((${24} * $1)) -le $((($1 + tau) * $2)) ] && [ $(((${24} + 1) * $1)) -gt $((($1 + tau) * $2)) ] || return
-    [ $((${27} * tau)) -le $((($1 + tau) * $9)) ] && [ $(((${27} + 1) * tau)) -gt $((($1 + tau) * $9)) ] || return
+    [ $# -eq 31 ] || return 1
+    # 3: parallel value V work 7 span 9 forks F deep D; 14: heartbeat value V work 18 span 20 forks 22 deep D; 25: the row's N forks work most % span most
+    [ "${26}" = "${22}" ] && [ "${27}" = "${18}" ] && [ "${30}" = "${20}" ] || return
+    [ $((${28} * $1)) -le $((($1 + tau) * $2)) ] && [ $(((${28} + 1) * $1)) -gt $((($1 + tau) * $2)) ] || return
+    [ $((${31} * tau)) -le $((($1 + tau) * $9)) ] && [ $(((${31} + 1) * tau)) -gt $((($1 + tau) * $9)) ] || return
     grep -qx "tau $tau, sequential work $2, parallel work $7 span $9" "$work/head"
 }
 
