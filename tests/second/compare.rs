@@ -2,6 +2,7 @@
 //! implementation. compare [jobs [seed]]: so many jobs from the fixed seed and from a fresh one, and the small jobs of forms; or so many
 //! from the seed given. compare forms: the small jobs alone, from the fixed seed.
 mod boundaries;
+mod depths;
 mod faults;
 mod forms;
 mod inputs;
@@ -14,13 +15,14 @@ mod second;
 mod settled;
 mod small;
 
+use depths::{Depths, DEPTH};
 use jobs::{Dice, Input};
 use program::{Reports, Tally};
-use proved::{proved, Lent};
-use second::{Machine, ALL};
+use proved::{proved, Lent, BEHIND, FEWEST};
+use second::{Machine, Words, ALL, WORDS};
 use std::collections::{BTreeMap, BTreeSet};
 
-fn by_second(m: Machine, j: &Input) -> [u64; 8] {
+fn by_second(m: Machine, j: &Input) -> Words {
     second::run(m, &j.table, &j.args, j.fuel, j.period, j.tau, j.workspace).words()
 }
 
@@ -36,6 +38,7 @@ struct Bench {
     places: BTreeMap<String, BTreeSet<(u64, u64)>>,
     /// The numbers of frames of the jobs that ran.
     frames: BTreeSet<usize>,
+    depths: Depths,
     formed_promoted: u64,
     values: u64,
 }
@@ -48,7 +51,8 @@ impl Bench {
         }
     }
 
-    fn note(&mut self, m: Machine, a: [u64; 8]) {
+    fn note(&mut self, m: Machine, a: Words) {
+        self.depths.note(a);
         let what = match a[0] {
             0 => format!("{m:?} value"),
             1 => format!("{m:?} stop {}", a[1]),
@@ -60,23 +64,44 @@ impl Bench {
         *self.answers.entry(what).or_default() += 1;
     }
 
-    fn machine(&mut self, dice: &mut Dice, kind: &str, i: usize, j: &Input) -> [u64; 8] {
+    /// The answer of one machine, by both implementations.
+    fn machine(&mut self, dice: &mut Dice, kind: &str, i: usize, j: &Input) -> Words {
         let mine = by_second(ALL[i], j);
         for what in self.lent.differences(dice, i, j, mine) {
             self.fail(kind, j, what);
         }
-        self.note(ALL[i], mine);
         mine
+    }
+
+    /// Each machine that has a value, again: with as many frames as its depth its answer is the same, with one frame fewer it is stop 21.
+    fn frames_by_depth(&mut self, dice: &mut Dice, j: &Input, answers: [Words; 3]) {
+        for (i, a) in answers.into_iter().enumerate().filter(|(_, a)| a[0] == 0) {
+            let mut t = j.clone();
+            t.workspace = 32 * a[DEPTH].max(1) as usize;
+            let enough = self.machine(dice, "frames as the depth", i, &t);
+            self.depths.enough[i] += 1;
+            if enough != a {
+                self.fail("frames as the depth", &t, format!("{:?}: {enough:?}, not {a:?}", ALL[i]));
+            }
+            if a[DEPTH] > 1 {
+                t.workspace -= 32;
+                let fewer = self.machine(dice, "one frame fewer", i, &t);
+                self.depths.fewer[i] += 1;
+                if fewer[..2] != [1, 21] {
+                    self.fail("one frame fewer", &t, format!("{:?}: {fewer:?}, and with one more {a:?}", ALL[i]));
+                }
+            }
+        }
     }
 
     /// An unknown machine, and too few words for an answer.
     fn unserved(&mut self, dice: &mut Dice, kind: &str, j: &Input) {
         let m = dice.pick(&[3u32, 4, 1 << 31, u32::MAX]);
-        let few = dice.below(8) as usize;
-        for (m, room) in [(m, 9usize), (dice.below(3) as u32, few)] {
+        let (room, few) = (dice.pick(&[FEWEST, WORDS, WORDS + 1]), dice.below(FEWEST as u64) as usize);
+        for (m, room) in [(m, room), (dice.below(3) as u32, few)] {
             let mut ws: Vec<u64> = (0..j.workspace as u64).map(|k| k + 7).collect();
-            let mut answer = vec![99u64; room];
-            let r = proved(m, j, &mut ws, &mut answer);
+            let mut answer = vec![99u64; room + BEHIND];
+            let r = proved(m, j, &mut ws, &mut answer[..room]);
             if r != 1 || answer.iter().any(|&x| x != 99) || ws.iter().enumerate().any(|(k, &w)| w != k as u64 + 7) {
                 self.fail(kind, j, format!("machine {m}, {room} answer words: {r}"));
             }
@@ -84,12 +109,12 @@ impl Bench {
         }
     }
 
-    fn demand_three(&mut self, j: &Input, [s, p, h]: [[u64; 8]; 3]) {
+    fn demand_three(&mut self, j: &Input, [s, p, h]: [Words; 3]) {
         let (n, tau) = (j.period as u128, j.tau as u128);
-        let w = |a: [u64; 8], i: usize| a[i] as u128;
+        let w = |a: Words, i: usize| a[i] as u128;
         let span_bound = || tau * w(h, 7) <= (n + tau) * w(p, 7);
-        if p[0] == 0 && h[0] == 0 && !(p[1] == h[1] && span_bound()) {
-            self.fail("the span bound, whatever the sequential run", j, format!("{p:?} {h:?}"));
+        if p[0] == 0 && h[0] == 0 && !(p[1] == h[1] && p[DEPTH] == h[DEPTH] && span_bound()) {
+            self.fail("the span bound and the depth, whatever the sequential run", j, format!("{p:?} {h:?}"));
         }
         if s[0] != 0 {
             return;
@@ -102,16 +127,25 @@ impl Bench {
         if !held {
             self.fail("demand 3", j, format!("{s:?} {p:?} {h:?}"));
         }
+        if p[DEPTH] != s[DEPTH] || h[DEPTH] != s[DEPTH] {
+            self.fail("the three depths", j, format!("{s:?} {p:?} {h:?}"));
+        }
     }
 
-    fn one(&mut self, dice: &mut Dice, reports: &Reports, kind: &'static str, j: &Input) -> [[u64; 8]; 3] {
+    fn one(&mut self, dice: &mut Dice, reports: &Reports, kind: &'static str, j: &Input) -> [Words; 3] {
         self.jobs += 1;
         *self.kinds.entry(kind).or_default() += 1;
         let answers = [0, 1, 2].map(|i| self.machine(dice, kind, i, j));
+        for i in 0..3 {
+            self.note(ALL[i], answers[i]);
+        }
         if dice.one_in(16) {
             self.unserved(dice, kind, j);
         }
         self.demand_three(j, answers);
+        if dice.one_in(8) {
+            self.frames_by_depth(dice, j, answers);
+        }
         if answers[0][0] < 2 {
             self.frames.insert(j.workspace / 32);
         }
@@ -123,7 +157,7 @@ impl Bench {
     }
 
     /// A well-formed job again, with fuel and frames about what it needs.
-    fn tight(&mut self, dice: &mut Dice, reports: &Reports, j: &Input, answers: [[u64; 8]; 3]) {
+    fn tight(&mut self, dice: &mut Dice, reports: &Reports, j: &Input, answers: [Words; 3]) {
         let got = dice.pick(&answers);
         let mut t = j.clone();
         if got[0] == 1 && got[1] > 21 {
@@ -154,7 +188,7 @@ impl Bench {
             let case = faults::case(dice, kind, &faults, settings);
             let told = self.one(dice, reports, "faults", &case.input)[0];
             let [number, f, node] = case.wanted;
-            if told != [2, number, f, node, 0, 0, 0, 0] {
+            if told != [2, number, f, node, 0, 0, 0, 0, 0] {
                 self.fail("faults", &case.input, format!("{faults:?} at {kind:?}: second {told:?}, wanted {:?}", case.wanted));
             }
             met.note(kind, &faults, &case);
@@ -196,59 +230,103 @@ const BREADTHS: [(&str, u64); 9] = [
     ("zero in the last decimal", 100),
 ];
 
-/// How many of the things asked for are too few in a round of 20,000 jobs; a smaller round is held to its share.
-fn too_few(b: &Bench, reports: &Tally, count: u64) -> u64 {
-    let mut few = 0;
-    let mut want = |what: String, have: usize, least: u64| {
+/// How a depth is written in a machine's line, and how many such lines there are to be in a round.
+const DEPTHS: [(&str, u64); 8] = [
+    ("value, depth 0", 500),
+    ("value, depth of 1 digit", 500),
+    ("value, depth of 2 digits", 500),
+    ("value, depth of 3 digits", 10),
+    ("stop, depth 0", 30),
+    ("stop, depth of 1 digit", 500),
+    ("stop, depth of 2 digits", 500),
+    ("stop, depth of 3 digits", 500),
+];
+
+/// Counts what is too few in a round.
+struct Wants {
+    jobs: u64,
+    few: u64,
+}
+
+impl Wants {
+    fn want(&mut self, what: String, have: usize, least: u64) {
         if (have as u64) < least {
             println!("  TOO FEW {what}: {have}, not {least}");
-            few += 1;
-        }
-    };
-    let share = |n: u64| n * count.min(20_000) / 20_000;
-    let formed = b.kinds["well-formed"];
-    want("well-formed jobs with a value and a promotion".into(), b.formed_promoted as usize, formed.div_ceil(4));
-    want("jobs with demand 3".into(), b.values as usize, share(5_000));
-    let places = |what: &str| b.places.get(what).map_or(0, |p| p.len());
-    for m in ALL {
-        for (number, least) in [(20, 200), (21, 40), (22, 40), (23, 20), (24, 20)] {
-            let what = format!("{m:?} stop {number}");
-            want(format!("places of {what}"), places(&what), share(least));
+            self.few += 1;
         }
     }
-    for (number, least) in [(1, 1), (2, 6), (3, 1), (4, 60), (5, 40), (6, 12), (7, 1), (8, 1), (9, 1), (10, 1), (11, 1), (16, 90), (17, 50), (18, 120)] {
-        let what = format!("refusal {number}");
-        want(format!("places of {what}"), places(&what), share(least).max(1));
+
+    /// Of what is asked for in a round of 20,000 jobs, the share of a smaller one.
+    fn share(&self, n: u64) -> u64 {
+        n * self.jobs.min(20_000) / 20_000
     }
-    want("numbers of frames".into(), b.frames.len(), share(150));
-    want("jobs with 1 frame and with 4,096".into(), [1, 4_096].iter().filter(|&f| b.frames.contains(f)).count(), 2);
-    for kind in ["fuel exact", "fuel tight", "fuel at a stop", "frames tight", "mutated", "raw", "long", "random bytes", "short", "not served"] {
-        want(format!("jobs of kind {kind}"), b.kinds.get(kind).copied().unwrap_or(0) as usize, share(60));
+
+    fn of_round(&mut self, what: String, have: usize, least: u64) {
+        self.want(what, have, self.share(least));
     }
-    for number in (1..=10).chain(16..=18) {
-        let what = format!("refused {number}");
-        want(format!("reports {what}"), reports.lines.get(&what).copied().unwrap_or(0) as usize, share(20));
-    }
-    for (kind, least) in BREADTHS {
-        let what = format!("breadth {kind}");
-        want(format!("reports {what}"), reports.lines.get(&what).copied().unwrap_or(0) as usize, share(least));
-    }
-    for what in ["sequential stop 20", "parallel stop 21", "heartbeat stop 22"] {
-        want(format!("reports {what}"), reports.lines.get(what).copied().unwrap_or(0) as usize, share(100));
-    }
-    for tau in inputs::TAU_WORDS {
-        let wanted: &[(&str, u64)] = match tau {
-            0 => &[("promotions", 5), ("no promotion", 100)],
-            1 => &[("promotions", 60), ("no promotion", 20)],
-            2..=500 => &[("no promotion", 60)],
-            _ => &[("refused 9", 100)],
-        };
-        for (what, least) in wanted {
-            let have = reports.by_default.get(&(tau, *what)).copied().unwrap_or(0);
-            want(format!("reports with 0 for N and {tau} for tau: {what}"), have as usize, share(*least));
+
+    fn places(&mut self, b: &Bench) {
+        let places = |what: &str| b.places.get(what).map_or(0, |p| p.len());
+        for m in ALL {
+            for (number, least) in [(20, 200), (21, 40), (22, 40), (23, 20), (24, 20)] {
+                let what = format!("{m:?} stop {number}");
+                self.of_round(format!("places of {what}"), places(&what), least);
+            }
+        }
+        for (number, least) in [(1, 1), (2, 6), (3, 1), (4, 60), (5, 40), (6, 12), (7, 1), (8, 1), (9, 1), (10, 1), (11, 1), (16, 90), (17, 50), (18, 120)] {
+            let what = format!("refusal {number}");
+            self.want(format!("places of {what}"), places(&what), self.share(least).max(1));
         }
     }
-    few
+
+    fn runs(&mut self, b: &Bench) {
+        let formed = b.kinds["well-formed"];
+        self.want("well-formed jobs with a value and a promotion".into(), b.formed_promoted as usize, formed.div_ceil(4));
+        self.of_round("jobs with demand 3".into(), b.values as usize, 5_000);
+        self.places(b);
+        self.of_round("numbers of frames".into(), b.frames.len(), 150);
+        self.want("jobs with 1 frame and with 4,096".into(), [1, 4_096].iter().filter(|&f| b.frames.contains(f)).count(), 2);
+        for (what, have, least) in [b.depths.wanted(), b.lent.wanted()].concat() {
+            self.of_round(what, have, least);
+        }
+        for kind in ["fuel exact", "fuel tight", "fuel at a stop", "frames tight", "mutated", "raw", "long", "random bytes", "short", "not served"] {
+            self.of_round(format!("jobs of kind {kind}"), b.kinds.get(kind).copied().unwrap_or(0) as usize, 60);
+        }
+    }
+
+    fn reports(&mut self, reports: &Tally) {
+        let refusals = (1..=10).chain(16..=18).map(|number| (format!("refused {number}"), 20));
+        let breadths = BREADTHS.map(|(kind, least)| (format!("breadth {kind}"), least));
+        let depths = DEPTHS.map(|(kind, least)| (kind.to_string(), least));
+        let stops = ["sequential stop 20", "parallel stop 21", "heartbeat stop 22"].map(|what| (what.to_string(), 100));
+        for (what, least) in refusals.chain(breadths).chain(depths).chain(stops) {
+            let have = reports.lines.get(&what).copied().unwrap_or(0);
+            self.of_round(format!("reports {what}"), have as usize, least);
+        }
+    }
+
+    fn periods_by_default(&mut self, reports: &Tally) {
+        for tau in inputs::TAU_WORDS {
+            let wanted: &[(&str, u64)] = match tau {
+                0 => &[("promotions", 5), ("no promotion", 100)],
+                1 => &[("promotions", 60), ("no promotion", 20)],
+                2..=500 => &[("no promotion", 60)],
+                _ => &[("refused 9", 100)],
+            };
+            for (what, least) in wanted {
+                let have = reports.by_default.get(&(tau, *what)).copied().unwrap_or(0);
+                self.of_round(format!("reports with 0 for N and {tau} for tau: {what}"), have as usize, *least);
+            }
+        }
+    }
+}
+
+fn too_few(b: &Bench, reports: &Tally, jobs: u64) -> u64 {
+    let mut wants = Wants { jobs, few: 0 };
+    wants.runs(b);
+    wants.reports(reports);
+    wants.periods_by_default(reports);
+    wants.few
 }
 
 fn round(count: u64, seed: u64) -> u64 {
@@ -265,6 +343,8 @@ fn round(count: u64, seed: u64) -> u64 {
     println!("  answers: {:?}", b.answers);
     println!("  different places: {:?}", b.places.iter().map(|(k, p)| (k, p.len())).collect::<Vec<_>>());
     println!("  frames: {} numbers, from {:?} to {:?}", b.frames.len(), b.frames.first(), b.frames.last());
+    b.depths.told();
+    b.lent.told();
     println!("  lines of reports: {:?}", reports.lines);
     println!("  0 for N, by the word for tau: {:?}", reports.by_default);
     println!("  faults at one node: {} tables, {} disagreements; {:?}", faults.jobs, faults.bad, faults.answers);
@@ -278,7 +358,7 @@ fn settled_runs() -> u64 {
         let j = Input { table: r.table.clone(), args: vec![], fuel: r.fuel, period: r.period, tau: r.tau, workspace: 32 * r.frames };
         let mine = by_second(r.machine, &j);
         let mut ws = vec![5u64; j.workspace];
-        let mut answer = [9u64; 8];
+        let mut answer = [9u64; WORDS];
         let m = ALL.iter().position(|m| *m == r.machine).unwrap() as u32;
         proved(m, &j, &mut ws, &mut answer);
         if answer != mine || !settled::meets(mine, r.wanted) || !settled::meets(answer, r.wanted) {

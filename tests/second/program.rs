@@ -58,11 +58,21 @@ fn breadth_kinds(report: &str) -> Vec<&'static str> {
     kinds.into_iter().filter_map(|(is, kind)| is.then_some(kind)).collect()
 }
 
+/// Of a machine's line: whether it has a value or a stop, and how its depth is written.
+fn depth_kind(words: &[&str]) -> Option<String> {
+    let [_, what @ ("value" | "stop"), .., "deep", depth] = words else { return None };
+    Some(match depth.len() {
+        1 if *depth == "0" => format!("{what}, depth 0"),
+        1 => format!("{what}, depth of 1 digit"),
+        digits => format!("{what}, depth of {digits} digits"),
+    })
+}
+
 #[derive(Default)]
 pub struct Tally {
     pub runs: u64,
     pub bad: u64,
-    /// Lines by their first two words, a stop's also by the third; a breadth by its kinds.
+    /// Lines by their first two words, a stop's also by the third; a breadth by its kinds; and by how a depth is written.
     pub lines: BTreeMap<String, u64>,
     /// Inputs with 0 for N and a word of TAU_WORDS for tau, by that word and what came of them.
     pub by_default: BTreeMap<(u32, &'static str), u64>,
@@ -115,7 +125,9 @@ impl Tally {
                 [machine, "stop", number, ..] => format!("{machine} stop {number}"),
                 _ => words[..2].join(" "),
             };
-            *self.lines.entry(kept).or_default() += 1;
+            for what in depth_kind(&words).into_iter().chain([kept]) {
+                *self.lines.entry(what).or_default() += 1;
+            }
         }
     }
     fn add(&mut self, other: Tally) {

@@ -1,7 +1,9 @@
 //! The proved machines, through the static library of crate `capi`.
+use crate::depths::fits;
 use crate::jobs::{Dice, Input};
 use crate::library::mondupil_run;
-use crate::second::ALL;
+use crate::second::{Words, ALL, WORDS};
+use std::collections::BTreeMap;
 
 pub fn proved(m: u32, j: &Input, ws: &mut [u64], answer: &mut [u64]) -> u32 {
     unsafe {
@@ -12,26 +14,63 @@ pub fn proved(m: u32, j: &Input, ws: &mut [u64], answer: &mut [u64]) -> u32 {
     }
 }
 
+/// The fewest answer words that are served: an answer without its depth.
+pub const FEWEST: usize = 8;
+/// Words behind those that are lent; they stay as well.
+pub const BEHIND: usize = 4;
+
 /// A workspace that is lent again and again.
 #[derive(Default)]
-pub struct Lent(Vec<u64>);
+pub struct Lent {
+    workspace: Vec<u64>,
+    /// How often so many answer words were lent.
+    rooms: BTreeMap<usize, u64>,
+}
 
 impl Lent {
-    /// One machine, on a workspace full of garbage, with room for more than an answer: where it differs from the answer wanted, or leaves
-    /// another workspace than it should.
-    pub fn differences(&mut self, dice: &mut Dice, i: usize, j: &Input, wanted: [u64; 8]) -> Vec<String> {
+    /// One machine, with room for an answer or for more, and sometimes also for one without its depth: where it differs from the answer
+    /// wanted, or leaves another workspace than it should; and where the depth is not one of so many frames.
+    pub fn differences(&mut self, dice: &mut Dice, i: usize, j: &Input, wanted: Words) -> Vec<String> {
+        let more = 2 + dice.below(20) as usize;
+        let room = WORDS + dice.pick(&[0, 1, more]);
+        let mut all = self.with_room(dice, i, j, wanted, room);
+        if dice.one_in(16) {
+            all.extend(self.with_room(dice, i, j, wanted, FEWEST));
+        }
+        if !fits(wanted, j.workspace / 32) {
+            all.push(format!("{:?}: the depth of {wanted:?}", ALL[i]));
+        }
+        all
+    }
+
+    /// What is asked for in a round of 20,000 jobs, how often it was met, and the least.
+    pub fn wanted(&self) -> Vec<(String, usize, u64)> {
+        let lent = |what: &str, some: &dyn Fn(usize) -> bool| {
+            let have: u64 = self.rooms.iter().filter(|(room, _)| some(**room)).map(|(_, n)| n).sum();
+            (format!("runs with {what} answer words lent"), have as usize, 3_000)
+        };
+        vec![lent("8", &|n| n == FEWEST), lent("9", &|n| n == WORDS), lent("10", &|n| n == WORDS + 1), lent("more", &|n| n > WORDS + 1)]
+    }
+
+    pub fn told(&self) {
+        println!("  runs by the answer words lent: {:?}", self.rooms);
+    }
+
+    /// Workspace and answer are full of garbage. As many words of the answer as are lent are written, and no others.
+    fn with_room(&mut self, dice: &mut Dice, i: usize, j: &Input, wanted: Words, room: usize) -> Vec<String> {
+        *self.rooms.entry(room).or_default() += 1;
         let garbage = dice.next();
         let filled = |k: usize| garbage.wrapping_mul(2 * k as u64 + 1) | 1;
-        let ws = &mut self.0;
+        let ws = &mut self.workspace;
         ws.clear();
         ws.extend((0..j.workspace).map(filled));
-        let mut answer = [0; 10].map(|_: u64| dice.next());
-        let answer = &mut answer[..8 + dice.below(3) as usize];
-        let before = answer.to_vec();
-        let r = proved(i as u32, j, ws, answer);
+        let before: Vec<u64> = (0..room + BEHIND).map(|_| dice.next()).collect();
+        let mut answer = before.clone();
+        let r = proved(i as u32, j, ws, &mut answer[..room]);
+        let written = room.min(WORDS);
         let mut all = Vec::new();
-        if r != 0 || answer[..8] != wanted || answer[8..] != before[8..] {
-            all.push(format!("{:?}: proved {r} {answer:?}, second {wanted:?}", ALL[i]));
+        if r != 0 || answer[..written] != wanted[..written] || answer[written..] != before[written..] {
+            all.push(format!("{:?}, {room} words lent: proved {r} {answer:?}, second {wanted:?}", ALL[i]));
         }
         let kept = |(k, w): (usize, &u64)| if wanted[0] == 2 { *w == filled(k) } else { *w == 0 };
         if !ws.iter().enumerate().all(kept) {

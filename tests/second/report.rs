@@ -1,4 +1,4 @@
-//! The report program of document 01, with the default N and the breadth of document 02 (P2, P6), written from the documents alone: its bytes for any input bytes.
+//! The report program of document 01, with the default N, the breadth and the depth of document 02 (P2, P6, P7), written from the documents alone: its bytes for any input bytes.
 use crate::second::{self, Answer, Machine};
 
 const MOST_BYTES: usize = 65_536;
@@ -40,11 +40,11 @@ fn refused(number: u64, function: usize, node: usize) -> String {
 
 fn line(machine: &str, answer: Answer) -> String {
     match answer {
-        Answer::Value { value, forks, work, span, .. } => {
-            format!("{machine} value {value} work {work} span {span} forks {forks}\n")
+        Answer::Value { value, forks, work, span, deepest, .. } => {
+            format!("{machine} value {value} work {work} span {span} forks {forks} deep {deepest}\n")
         }
-        Answer::Stopped { number, function, node, transitions } => {
-            format!("{machine} stop {number} function {function} node {node} transitions {transitions}\n")
+        Answer::Stopped { number, function, node, transitions, deepest } => {
+            format!("{machine} stop {number} function {function} node {node} transitions {transitions} deep {deepest}\n")
         }
         Answer::Refused { .. } => unreachable!("all three machines check the same"),
     }

@@ -1,4 +1,4 @@
-//! A second implementation of document 01 with document 02's P4, written from the documents alone.
+//! A second implementation of document 01 with document 02's P4 and P7, written from the documents alone.
 //! Sequential: a recursive evaluator. Parallel and heartbeat: big-step
 //! judgments, one Rust call for each machine, an explicit stack in each,
 //! and a real cost graph that is priced at the end.
@@ -285,6 +285,8 @@ struct World<'j> {
     made: u64,
     frames: usize,
     occupied: usize,
+    /// The largest number of frames occupied at once.
+    deepest: usize,
     period: u64,
     beat: Option<Beat>,
     watch: Option<&'j mut (dyn Watch + 'j)>,
@@ -345,8 +347,12 @@ impl<'j> World<'j> {
         if self.occupied >= self.frames {
             return stop(21, at);
         }
-        self.occupied += 1;
+        self.occupy();
         Ok(())
+    }
+    fn occupy(&mut self) {
+        self.occupied += 1;
+        self.deepest = self.deepest.max(self.occupied);
     }
 
     // -- sequential: plain recursion, with a loop for what stands in tail place
@@ -529,7 +535,7 @@ impl<'j> World<'j> {
                     if self.occupied >= self.frames {
                         return Err(Stop { number: 21, function: *function, node: *at });
                     }
-                    self.occupied += 1;
+                    self.occupy();
                     let (x, g) = self.parallel(l, locals.clone())?;
                     let (y, h) = self.parallel(r, locals.clone())?;
                     self.occupied -= 1;
@@ -590,19 +596,25 @@ pub const ALL: [Machine; 3] = [Machine::Sequential, Machine::Parallel, Machine::
 
 #[derive(Debug, Clone, Copy, PartialEq, Eq)]
 pub enum Answer {
-    Value { value: u64, transitions: u64, forks: u64, work: u64, span: u64 },
-    Stopped { number: u64, function: usize, node: usize, transitions: u64 },
+    Value { value: u64, transitions: u64, forks: u64, work: u64, span: u64, deepest: u64 },
+    Stopped { number: u64, function: usize, node: usize, transitions: u64, deepest: u64 },
     Refused { number: u64, function: usize, node: usize },
 }
 
+/// An answer in words: kind, told, function, node, transitions, forks, work, span, deepest.
+pub const WORDS: usize = 9;
+pub type Words = [u64; WORDS];
+
 impl Answer {
-    pub fn words(self) -> [u64; 8] {
+    pub fn words(self) -> Words {
         match self {
-            Answer::Value { value, transitions, forks, work, span } => [0, value, 0, 0, transitions, forks, work, span],
-            Answer::Stopped { number, function, node, transitions } => {
-                [1, number, function as u64, node as u64, transitions, 0, 0, 0]
+            Answer::Value { value, transitions, forks, work, span, deepest } => {
+                [0, value, 0, 0, transitions, forks, work, span, deepest]
             }
-            Answer::Refused { number, function, node } => [2, number, function as u64, node as u64, 0, 0, 0, 0],
+            Answer::Stopped { number, function, node, transitions, deepest } => {
+                [1, number, function as u64, node as u64, transitions, 0, 0, 0, deepest]
+            }
+            Answer::Refused { number, function, node } => [2, number, function as u64, node as u64, 0, 0, 0, 0, 0],
         }
     }
 }
@@ -645,7 +657,7 @@ pub fn run(m: Machine, table: &[u32], args: &[u64], fuel: u64, period: u64, tau:
 
 pub fn run_accepted<'j>(m: Machine, job: &'j Job, args: &[u64], limits: Limits, watch: Option<&'j mut (dyn Watch + 'j)>) -> Answer {
     let Limits { fuel, period, tau, frames } = limits;
-    let mut world = World { job, fuel, made: 0, frames, occupied: 0, period, beat: None, watch };
+    let mut world = World { job, fuel, made: 0, frames, occupied: 0, deepest: 0, period, beat: None, watch };
     let entry = &job.bodies[0];
     let locals: Locals = Rc::new(args.to_vec());
     let ended = match m {
@@ -656,12 +668,13 @@ pub fn run_accepted<'j>(m: Machine, job: &'j Job, args: &[u64], limits: Limits, 
         Machine::Parallel => world.parallel(entry, locals),
         Machine::Heartbeat => world.heartbeat(Evaluate(entry, locals), Vec::new()),
     };
+    let (transitions, deepest) = (world.made, world.deepest as u64);
     match ended {
         Ok((value, g)) => {
             assert_eq!(world.occupied, 0);
-            assert_eq!(g.steps(), world.made);
-            Answer::Value { value, transitions: world.made, forks: g.forks(), work: g.work(tau), span: g.span(tau) }
+            assert_eq!(g.steps(), transitions);
+            Answer::Value { value, transitions, forks: g.forks(), work: g.work(tau), span: g.span(tau), deepest }
         }
-        Err(s) => Answer::Stopped { number: s.number, function: s.function, node: s.node, transitions: world.made },
+        Err(s) => Answer::Stopped { number: s.number, function: s.function, node: s.node, transitions, deepest },
     }
 }
