@@ -2,7 +2,6 @@
 use Prim.Native.Nat.{ℕ, _+_, _-_, _≤_, _<_, _^_}
 use mathlib.Core.Bool.{cond}
 use lib.Dec.{ltb}
-use Rattle.schedule.specs.Stretch.{raise}
 use Rattle.moves.specs.declared.Control.{Control}
 use Rattle.moves.specs.declared.Registers.{Registers}
 use Rattle.moves.specs.declared.Plan.{Plan}
@@ -88,9 +87,9 @@ keptBy g (step.Go s) = Go (keptOf g s)
 keptBy g (step.Value v) = Value v
 keptBy g (step.Halt h) = Halt h
 
--- THE REGISTERS k transitions later, with h frames more at once
-abbrev pub laterOf : Compact → Control → ℕ → ℕ → ℕ → Compact
-laterOf g c d k h = record {
+-- THE REGISTERS k transitions later, no deeper than before
+abbrev pub laterOf : Compact → Control → ℕ → ℕ → Compact
+laterOf g c d k = record {
   control = c;
   depth = d;
   oldest = g .oldest;
@@ -99,7 +98,7 @@ laterOf g c d k h = record {
   before = g .before;
   limit = g .limit;
   forks = g .forks;
-  deepest = raise (g .deepest) (g .depth) h;
+  deepest = g .deepest;
 }
 
 -- the counts can rise
@@ -107,7 +106,7 @@ pub record Small (g : Compact) : Type 0 where
   pub transitions : g .transitions < 2 ^ 60
   pub depth : g .depth ≤ 4096
 
--- k transitions can be made, with h frames more at once, of so many frames
-pub record Roomy (g : Compact) (frames k h : ℕ) : Type 0 where
+-- k transitions can be made, with h frames more at once, which were occupied before
+pub record Roomy (g : Compact) (k h : ℕ) : Type 0 where
   pub transitions : g .transitions + k ≤ g .limit
-  pub within : g .depth + h ≤ frames
+  pub within : g .depth + h ≤ g .deepest

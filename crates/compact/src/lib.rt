@@ -12,7 +12,6 @@ ghost use mathlib.Core.Path.{_≡_};
 ghost use mathlib.Core.Bool.{true, _&&_};
 ghost use Prim.Native.Nat.{_+_, _<_, _≤_, _^_, max};
 ghost use lib.Dec.{ltb, leb};
-ghost use Rattle.schedule.specs.Stretch.{raise};
 ghost use Rattle.moves.specs.Ready.{Framed, transited, Opened};
 ghost use Rattle.compact.specs.Compact.{full, stepOf, limitOf, Paced, PacedBy, compactOf, settledOf, Settles, keptBy, laterOf, Small, Roomy};
 
@@ -45,18 +44,6 @@ pub fn higher(a: usize, b: usize) -> usize
     ensures { λ r. ⌜ r ≡ max a b ⌝ }
 {
     if b <= a { a } else { b }
-}
-
-// The most frames at once, after h more.
-fn raised(deepest: usize, depth: usize, h: usize) -> usize
-    requires { ⌜ (depth ≤ 4096) × (h ≤ 2) ⌝ }
-    ensures { λ r. ⌜ r ≡ raise deepest depth h ⌝ }
-{
-    if h == 0 {
-        deepest
-    } else {
-        higher(deepest, depth + h)
-    }
 }
 
 // The registers that compact ones stand for.
@@ -157,27 +144,27 @@ fn keep(g: Compact, step: Step) -> Progress
     }
 }
 
-// Can an operand of k transitions and so many more be made, with h frames more at once? An operand of 0 is not simple.
-pub fn fits(g: Compact, frames: usize, k: u64, more: u64, h: usize) -> bool
+// Can an operand of k transitions and so many more be made, with h frames more at once? An operand of 0 is not simple. The frames are there
+// where so many were occupied before; where not, the steps that open them are made one by one, and raise the depth.
+pub fn fits(g: Compact, k: u64, more: u64, h: usize) -> bool
     requires { ⌜ (Small g) × (k ≤ 1000) × (more ≤ 1000) × (h ≤ 2) ⌝ }
-    ensures { λ r. ⌜ (r ≡ true → (0 < k) × Roomy g frames (k + more) h) ⌝ }
+    ensures { λ r. ⌜ (r ≡ true → (0 < k) × Roomy g (k + more) h) ⌝ }
 {
     if k == 0 {
         false
     } else if g.transitions + (k + more) <= g.limit {
-        g.depth + h <= frames
+        g.depth + h <= g.deepest
     } else {
         false
     }
 }
 
 // The registers k transitions later.
-pub fn later(g: Compact, control: Control, depth: usize, k: u64, h: usize) -> Compact
-    requires { ⌜ (Small g) × (k ≤ 1000) × (h ≤ 2) ⌝ }
-    ensures { λ r. ⌜ r ≡ laterOf g control depth k h ⌝ }
+pub fn later(g: Compact, control: Control, depth: usize, k: u64) -> Compact
+    requires { ⌜ (Small g) × (k ≤ 1000) ⌝ }
+    ensures { λ r. ⌜ r ≡ laterOf g control depth k ⌝ }
 {
     let before = g.before;
-    let deepest = raised(g.deepest, g.depth, h);
     let transitions = g.transitions + k;
     Compact {
         control,
@@ -188,7 +175,7 @@ pub fn later(g: Compact, control: Control, depth: usize, k: u64, h: usize) -> Co
         before,
         limit: g.limit,
         forks: g.forks,
-        deepest,
+        deepest: g.deepest,
     }
 }
 

@@ -47,6 +47,12 @@ unfolding raise
 raise-some deepest d zero l = absurd (omega arith)
 raise-some deepest d (suc h) l = refl
 
+-- where so many frames were occupied before
+pub raise-within : (deepest d h : ℕ) → d + h ≤ deepest → raise deepest d h ≡ deepest
+unfolding raise
+raise-within deepest d zero l = refl
+raise-within deepest d (suc h) l = omega arith
+
 raise-twice : (m d a b : ℕ) → raise (raise m d a) d b ≡ raise m d (max a b)
 unfolding raise
 raise-twice m d zero zero = refl

@@ -104,14 +104,14 @@ module _ {w ls : List ℕ} {g : Compact} {seat : Seat} {start at f : ℕ} (t : T
     first-leads : 0 < arityAt w f → 0 < k → Leads (language w) (codeOf seat (seat .node + 1) ls) (return x) k (framesOf k)
     first-leads h s = child-leads w ls g seat start at (t .site) _ (at + 4) k (first-stands h) (first-word w ls g seat start at (t .site)) cost s r value x is
 
-    pub jump-one : arityAt w f ≡ 1 → {h frames : ℕ} {ls′ : List ℕ} {next : Compact} → h ≡ framesOf k → (0 < k) × Roomy g frames (k + 2) (h + 1)
-        → ls′ ≡ appended ls 0 x → next ≡ laterOf g (Eval f 0 1) (g .depth) (k + 2) (h + 1) → Jump w ls frames g seat ls′ next
+    pub jump-one : arityAt w f ≡ 1 → {h : ℕ} {ls′ : List ℕ} {next : Compact} → h ≡ framesOf k → (0 < k) × Roomy g (k + 2) (h + 1)
+        → ls′ ≡ appended ls 0 x → next ≡ laterOf g (Eval f 0 1) (g .depth) (k + 2) → Jump w ls g seat ls′ next
     unfolding controlOf Controlled
-    jump-one n {h} {frames} {ls′} {next} eh room u e =
+    jump-one n {h} {ls′} {next} eh room u e =
         let a = is-appended ls ls′ 0 x (omega arith) (t .site .sixteen) u in
         let are : take 1 ls′ ≡ x ∷ [] = a .are in
         let lead = call-one-leads w (seat .function) (seat .node) (take (seat .count) ls) x k (framesOf k) tag (rw f-is at n) (first-leads (omega arith) (room .0)) in
-        jump w ls g seat start at (t .site) frames ls′ next (Eval f 0 1) (k + 2) (h + 1) (omega arith) e (room .1) (rw (f-is, eh, are) lead) (entered n) (a .sixteen)
+        jump w ls g seat start at (t .site) ls′ next (Eval f 0 1) (k + 2) (h + 1) (omega arith) e (room .1) (rw (f-is, eh, are) lead) (entered n) (a .sixteen)
 
     -- with a second, whose words begin at start + 4 * q
     module _ {q l y : ℕ} {r₂ : Computed} (second : q ≡ getD w (at + 2) 0) (cost₂ : l ≡ costAt w (start + 4 * q)) (value₂ : r₂ ≡ simpleAt w (start + 4 * q) ls 0) (is₂ : r₂ ≡ Is y) where
@@ -120,11 +120,11 @@ module _ {w ls : List ℕ} {g : Compact} {seat : Seat} {start at f : ℕ} (t : T
           let b : q ≡ bAt w (startOf w (seat .function)) (seat .node) = rw there at second in
           rw (← b) (child-leads w ls g seat start at (t .site) q _ l (second-stands h second) refl cost₂ s r₂ value₂ y is₂)
 
-      pub jump-two : arityAt w f ≡ 2 → {a b h n made frames : ℕ} {ls₁ ls′ : List ℕ} {next : Compact} → a ≡ framesOf k → b ≡ framesOf l → h ≡ max a b → n ≡ bothOf k l
-          → (0 < n) × Roomy g frames (n + 3) (h + 1) → ls₁ ≡ appended ls 0 x → ls′ ≡ appended ls₁ 1 y → next ≡ laterOf g (Eval f 0 2) (g .depth) made (h + 1) → made ≡ k + l + 3
-          → Jump w ls frames g seat ls′ next
+      pub jump-two : arityAt w f ≡ 2 → {a b h n made : ℕ} {ls₁ ls′ : List ℕ} {next : Compact} → a ≡ framesOf k → b ≡ framesOf l → h ≡ max a b → n ≡ bothOf k l
+          → (0 < n) × Roomy g (n + 3) (h + 1) → ls₁ ≡ appended ls 0 x → ls′ ≡ appended ls₁ 1 y → next ≡ laterOf g (Eval f 0 2) (g .depth) made → made ≡ k + l + 3
+          → Jump w ls g seat ls′ next
       unfolding controlOf Controlled
-      jump-two m {a} {b} {h} {n} {made} {frames} {ls₁} {ls′} {next} ea eb eh en room u₁ u₂ e em =
+      jump-two m {a} {b} {h} {n} {made} {ls₁} {ls′} {next} ea eb eh en room u₁ u₂ e em =
           let some = both-some n k l en (room .0) in
           let a₁ = is-appended ls ls₁ 0 x (omega arith) (t .site .sixteen) u₁ in
           let a₂ = is-appended ls₁ ls′ 1 y (omega arith) (a₁ .sixteen) u₂ in
@@ -132,7 +132,7 @@ module _ {w ls : List ℕ} {g : Compact} {seat : Seat} {start at f : ℕ} (t : T
           let are : take 2 ls′ ≡ x ∷ y ∷ [] = a₂ .are ∙ ap (λ (v : List ℕ). v ++ (y ∷ [])) one in
           let lead = call-two-leads w (seat .function) (seat .node) (take (seat .count) ls) x y k l (framesOf k) (framesOf l) tag (rw f-is at m) (first-leads (omega arith) (some .0)) (second-leads (omega arith) (some .1)) in
           let top : h ≡ max (framesOf k) (framesOf l) = rw (ea, eb) at eh in
-          jump w ls g seat start at (t .site) frames ls′ next (Eval f 0 2) (k + l + 3) (h + 1) (omega arith) (rw em at e) (rw (some .2) at (room .1)) (rw (f-is, top, are) lead) (entered m) (a₂ .sixteen)
+          jump w ls g seat start at (t .site) ls′ next (Eval f 0 2) (k + l + 3) (h + 1) (omega arith) (rw em at e) (rw (some .2) at (room .1)) (rw (f-is, top, are) lead) (entered m) (a₂ .sixteen)
 
       -- and a third, at start + 4 * p
       module _ {p i z : ℕ} {r₃ : Computed} (third : p ≡ getD w (at + 3) 0) (cost₃ : i ≡ costAt w (start + 4 * p)) (value₃ : r₃ ≡ simpleAt w (start + 4 * p) ls 0) (is₃ : r₃ ≡ Is z) where
@@ -141,11 +141,11 @@ module _ {w ls : List ℕ} {g : Compact} {seat : Seat} {start at f : ℕ} (t : T
             let c : p ≡ cAt w (startOf w (seat .function)) (seat .node) = rw there at third in
             rw (← c) (child-leads w ls g seat start at (t .site) p _ i (third-stands h third) refl cost₃ s r₃ value₃ z is₃)
 
-        pub jump-three : arityAt w f ≡ 3 → {a b c d h n j frames : ℕ} {ls₁ ls₂ ls′ : List ℕ} {next : Compact} → a ≡ framesOf k → b ≡ framesOf l → c ≡ framesOf i → d ≡ max b c → h ≡ max a d
-            → j ≡ bothOf k l → n ≡ bothOf j i → (0 < n) × Roomy g frames (n + 4) (h + 1) → ls₁ ≡ appended ls 0 x → ls₂ ≡ appended ls₁ 1 y → ls′ ≡ appended ls₂ 2 z
-            → next ≡ laterOf g (Eval f 0 3) (g .depth) (k + l + i + 4) (h + 1) → Jump w ls frames g seat ls′ next
+        pub jump-three : arityAt w f ≡ 3 → {a b c d h n j : ℕ} {ls₁ ls₂ ls′ : List ℕ} {next : Compact} → a ≡ framesOf k → b ≡ framesOf l → c ≡ framesOf i → d ≡ max b c → h ≡ max a d
+            → j ≡ bothOf k l → n ≡ bothOf j i → (0 < n) × Roomy g (n + 4) (h + 1) → ls₁ ≡ appended ls 0 x → ls₂ ≡ appended ls₁ 1 y → ls′ ≡ appended ls₂ 2 z
+            → next ≡ laterOf g (Eval f 0 3) (g .depth) (k + l + i + 4) → Jump w ls g seat ls′ next
         unfolding controlOf Controlled
-        jump-three m {a} {b} {c} {d} {h} {n} {j} {frames} {ls₁} {ls₂} {ls′} {next} ea eb ec ed eh ej en room u₁ u₂ u₃ e =
+        jump-three m {a} {b} {c} {d} {h} {n} {j} {ls₁} {ls₂} {ls′} {next} ea eb ec ed eh ej en room u₁ u₂ u₃ e =
             let last = both-some n j i en (room .0) in
             let some = both-some j k l ej (last .0) in
             let sum : n ≡ k + l + i = omega (arith, last .2, some .2) in
@@ -157,18 +157,18 @@ module _ {w ls : List ℕ} {g : Compact} {seat : Seat} {start at f : ℕ} (t : T
             let are : take 3 ls′ ≡ x ∷ y ∷ z ∷ [] = a₃ .are ∙ ap (λ (v : List ℕ). v ++ (z ∷ [])) two in
             let lead = call-three-leads w (seat .function) (seat .node) (take (seat .count) ls) x y z k l i (framesOf k) (framesOf l) (framesOf i) tag (rw f-is at m) (first-leads (omega arith) (some .0)) (second-leads (omega arith) (some .1)) (third-leads (omega arith) (last .1)) in
             let top : h ≡ max (framesOf k) (max (framesOf l) (framesOf i)) = rw (ea, rw (eb, ec) at ed) at eh in
-            jump w ls g seat start at (t .site) frames ls′ next (Eval f 0 3) (k + l + i + 4) (h + 1) (omega arith) e (rw sum at (room .1)) (rw (f-is, top, are) lead) (entered m) (a₃ .sixteen)
+            jump w ls g seat start at (t .site) ls′ next (Eval f 0 3) (k + l + i + 4) (h + 1) (omega arith) e (rw sum at (room .1)) (rw (f-is, top, are) lead) (entered m) (a₃ .sixteen)
 
 -- A NODE THAT IS EVALUATED: the laws of Striding, from `Evaluating` alone
 module _ {w ws ls : List ℕ} {plan : Plan} {g : Compact} {seat : Seat} {start at tag : ℕ} (v : Evaluating w ws ls plan g seat start at tag) where
   pub tagged-here : Tagged w ls g seat start at tag
   tagged-here = tagged w ws ls plan g seat start at tag v
 
-  pub jump-goes : (ls′ : List ℕ) (r : Progress) → Jumps w ls (length ws / 32) g seat ls′ r → {next : Compact} → r ≡ Go next → Strides w ws ls plan g ws ls′ (Go next)
+  pub jump-goes : (ls′ : List ℕ) (r : Progress) → Jumps w ls g seat ls′ r → {next : Compact} → r ≡ Go next → Strides w ws ls plan g ws ls′ (Go next)
   jump-goes ls′ r j {next} e = jumps-strides w ws ls plan g seat start at tag v ls′ r next e j
 
-  pub jump-stays : (ls′ : List ℕ) (r : Progress) → Jumps w ls (length ws / 32) g seat ls′ r → ((next : Compact) → r ≡ Go next → ⊥) → ls′ ≡ ls
-  jump-stays ls′ r j n = jumps-none w ls (length ws / 32) g seat ls′ r j n
+  pub jump-stays : (ls′ : List ℕ) (r : Progress) → Jumps w ls g seat ls′ r → ((next : Compact) → r ≡ Go next → ⊥) → ls′ ≡ ls
+  jump-stays ls′ r j n = jumps-none w ls g seat ls′ r j n
 
   pub can-open : {ls′ : List ℕ} → ls′ ≡ ls → Framed ws ls′ (full g) seat × Paced plan g
   can-open {ls′} e = frame-fits w ws ls plan g seat start at tag v ws ls′ refl e

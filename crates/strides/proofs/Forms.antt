@@ -64,16 +64,16 @@ module _ (w ls : List ℕ) (g : Compact) (seat : Seat) (start at : ℕ) (site : 
   child-leads q a k t e u h r c y d = rw u (simple-leads w (seat .function) (site .table) ls 0 t a (there q a e) few-locals (rw u at h) y (sym c ∙ d))
 
   -- a jump, by its number of transitions
-  pub jump : (frames : ℕ) (ls′ : List ℕ) (next : Compact) (to : Control) (k h : ℕ) → 1 ≤ k → next ≡ laterOf g to (g .depth) k h → Roomy g frames k h
-      → Leads (language w) (codeOf seat (seat .node) ls) (controlOf to ls′) k h → Controlled w to → length ls′ ≡ 16 → Jump w ls frames g seat ls′ next
-  jump frames ls′ next to k h some is room leads stands long =
+  pub jump : (ls′ : List ℕ) (next : Compact) (to : Control) (k h : ℕ) → 1 ≤ k → next ≡ laterOf g to (g .depth) k → Roomy g k h
+      → Leads (language w) (codeOf seat (seat .node) ls) (controlOf to ls′) k h → Controlled w to → length ls′ ≡ 16 → Jump w ls g seat ls′ next
+  jump ls′ next to k h some is room leads stands long =
       let x : k ≡ (k - 1) + 1 = omega arith in
       record { to = to; more = k - 1; most = h; is = rw x at is; leads = rw x at leads; room = rw x at room; stands = stands; sixteen = long }
 
 -- WHAT A FORM HAS IN COMMON with the others: nothing comes of it, or its first child is looked at
-pub none-jumps : (w ls : List ℕ) (frames : ℕ) (g : Compact) (seat : Seat) (r : Progress) → r ≡ Value 0 → Jumps w ls frames g seat ls r
+pub none-jumps : (w ls : List ℕ) (g : Compact) (seat : Seat) (r : Progress) → r ≡ Value 0 → Jumps w ls g seat ls r
 unfolding Jumps
-none-jumps w ls frames g seat r e = rw e refl
+none-jumps w ls g seat r e = rw e refl
 
 pub within : {w ls : List ℕ} {g : Compact} {seat : Seat} {start at : ℕ} → Site w ls g seat start at → at + 4 ≤ length w
 within {w} {ls} {g} {seat} {start} {at} site = here-inside w ls g seat start at site
@@ -113,14 +113,14 @@ module _ {w ls : List ℕ} {g : Compact} {seat : Seat} {start at : ℕ} (t : Tag
   pub choose-first : Stands w (seat .function) (seat .node + 1) (seat .count)
   choose-first = chooses .0
 
-  pub jump-choose : (frames : ℕ) (next : Compact) (x k h q : ℕ) → Led w ls seat x k → h ≡ framesOf k → Roomy g frames (k + 2) (h + 1)
-      → q ≡ cond (eqb x 0) (getD w (at + 3) 0) (getD w (at + 2) 0) → next ≡ laterOf g (Eval (seat .function) q (seat .count)) (g .depth) (k + 2) (h + 1)
-      → Jump w ls frames g seat ls next
+  pub jump-choose : (next : Compact) (x k h q : ℕ) → Led w ls seat x k → h ≡ framesOf k → Roomy g (k + 2) (h + 1)
+      → q ≡ cond (eqb x 0) (getD w (at + 3) 0) (getD w (at + 2) 0) → next ≡ laterOf g (Eval (seat .function) q (seat .count)) (g .depth) (k + 2)
+      → Jump w ls g seat ls next
   unfolding controlOf Controlled
-  jump-choose frames next x k h q led eh room eq n =
+  jump-choose next x k h q led eh room eq n =
       let q′ : q ≡ cond (eqb x 0) (cAt w (startOf w (seat .function)) (seat .node)) (bAt w (startOf w (seat .function)) (seat .node)) = rw (here w ls g seat start at (t .site)) at eq in
       let lead = choose-leads w (seat .function) (seat .node) (take (seat .count) ls) x k (framesOf k) (tag-here w ls g seat start at (t .site) 3 (t .is)) (led .first) in
-      jump w ls g seat start at (t .site) frames ls next (Eval (seat .function) q (seat .count)) (k + 2) (h + 1) (omega arith) n room (rw (q′, eh) lead)
+      jump w ls g seat start at (t .site) ls next (Eval (seat .function) q (seat .count)) (k + 2) (h + 1) (omega arith) n room (rw (q′, eh) lead)
       (rw q′ (on (eqb x 0) (chooses .1) (chooses .2))) (t .site .sixteen)
     where
       on : (z : Bool) {i j : ℕ} → Stands w (seat .function) i (seat .count) → Stands w (seat .function) j (seat .count) → Stands w (seat .function) (cond z j i) (seat .count)
@@ -139,15 +139,15 @@ module _ {w ls : List ℕ} {g : Compact} {seat : Seat} {start at : ℕ} (t : Tag
   pub let-few : seat .count < 16
   let-few = omega (arith, lets .0)
 
-  pub jump-let : (frames : ℕ) (ls′ : List ℕ) (next : Compact) (x k h q : ℕ) → Led w ls seat x k → h ≡ framesOf k → Roomy g frames (k + 2) (h + 1)
-      → q ≡ getD w (at + 2) 0 → ls′ ≡ appended ls (seat .count) x → next ≡ laterOf g (Eval (seat .function) q (seat .count + 1)) (g .depth) (k + 2) (h + 1)
-      → Jump w ls frames g seat ls′ next
+  pub jump-let : (ls′ : List ℕ) (next : Compact) (x k h q : ℕ) → Led w ls seat x k → h ≡ framesOf k → Roomy g (k + 2) (h + 1)
+      → q ≡ getD w (at + 2) 0 → ls′ ≡ appended ls (seat .count) x → next ≡ laterOf g (Eval (seat .function) q (seat .count + 1)) (g .depth) (k + 2)
+      → Jump w ls g seat ls′ next
   unfolding controlOf Controlled
-  jump-let frames ls′ next x k h q led eh room eq u n =
+  jump-let ls′ next x k h q led eh room eq u n =
       let q′ : q ≡ bAt w (startOf w (seat .function)) (seat .node) = rw (here w ls g seat start at (t .site)) at eq in
       let lead = let-leads w (seat .function) (seat .node) (take (seat .count) ls) x k (framesOf k) (tag-here w ls g seat start at (t .site) 4 (t .is)) (led .first) in
       let more = is-appended ls ls′ (seat .count) x let-few (t .site .sixteen) u in
-      jump w ls g seat start at (t .site) frames ls′ next (Eval (seat .function) q (seat .count + 1)) (k + 2) (h + 1) (omega arith) n room (rw (q′, eh, more .are) lead)
+      jump w ls g seat start at (t .site) ls′ next (Eval (seat .function) q (seat .count + 1)) (k + 2) (h + 1) (omega arith) n room (rw (q′, eh, more .are) lead)
       (rw q′ (lets .2)) (more .sixteen)
 
 -- AN ARITHMETIC
@@ -171,24 +171,24 @@ module _ {w ls : List ℕ} {g : Compact} {seat : Seat} {start at : ℕ} (t : Tag
   right-cost q e = child-cost w ls g seat start at (t .site) q (start + 4 * q) (rw e pair-right) refl
 
   -- both operands are simple
-  pub jump-pair : (frames : ℕ) (next : Compact) (x k l a b h right y v : ℕ) (r r′ : Computed) → Led w ls seat x k → right ≡ start + 4 * getD w (at + 2) 0 → l ≡ costAt w right → 0 < l
+  pub jump-pair : (next : Compact) (x k l a b h right y v : ℕ) (r r′ : Computed) → Led w ls seat x k → right ≡ start + 4 * getD w (at + 2) 0 → l ≡ costAt w right → 0 < l
       → r ≡ simpleAt w right ls 0 → r ≡ Is y → r′ ≡ computed (numbered (getD w (at + 1) 0)) x y → r′ ≡ Is v
-      → a ≡ framesOf k → b ≡ framesOf l → h ≡ max a b → Roomy g frames (k + l + 3) (h + 1) → next ≡ laterOf g (Ret v) (g .depth) (k + l + 3) (h + 1)
-      → Jump w ls frames g seat ls next
+      → a ≡ framesOf k → b ≡ framesOf l → h ≡ max a b → Roomy g (k + l + 3) (h + 1) → next ≡ laterOf g (Ret v) (g .depth) (k + l + 3)
+      → Jump w ls g seat ls next
   unfolding controlOf Controlled
-  jump-pair frames next x k l a b h right y v r r′ led er el some es ey eo ev ea eb eh room n =
+  jump-pair next x k l a b h right y v r r′ led er el some es ey eo ev ea eb eh room n =
       let t′ = tag-here w ls g seat start at (t .site) 2 (t .is) in
       let o = operation-in w (t .site .table) (t .site .stands) t′ in
       let same = two-node w (seat .function) (seat .node) (o .0) (bAt w (startOf w (seat .function)) (seat .node)) t′ (o .1) in
       let op : computed (o .0) x y ≡ Is v = rw (← same, ← here w ls g seat start at (t .site)) (sym eo ∙ ev) in
       let lead = arithmetic-leads w (seat .function) (seat .node) (take (seat .count) ls) (o .0) (bAt w (startOf w (seat .function)) (seat .node)) x y v k l (framesOf k) (framesOf l) (o .1)
       (led .first) (rw (← b-is) (child-leads w ls g seat start at (t .site) (getD w (at + 2) 0) right l pair-right er el some r es y ey)) op in
-      jump w ls g seat start at (t .site) frames ls next (Ret v) (k + l + 3) (h + 1) (omega arith) n room (rw (eh, ea, eb) lead) tt (t .site .sixteen)
+      jump w ls g seat start at (t .site) ls next (Ret v) (k + l + 3) (h + 1) (omega arith) n room (rw (eh, ea, eb) lead) tt (t .site .sixteen)
 
   -- or its frame is written with the left one
-  pub half-paired : (ws ws₁ ws′ : List ℕ) (next : Compact) (x k h q : ℕ) → Led w ls seat x k → h ≡ framesOf k → Roomy g (length ws / 32) (k + 2) (h + 1) → q ≡ getD w (at + 2) 0
+  pub half-paired : (ws ws₁ ws′ : List ℕ) (next : Compact) (x k h q : ℕ) → Led w ls seat x k → h ≡ framesOf k → Roomy g (k + 2) (h + 1) → q ≡ getD w (at + 2) 0
       → ws₁ ≡ pushed ws (32 * g .depth) 1 (seat .function) (seat .node) (seat .count) ls 0 → ws′ ≡ turned ws₁ (32 * g .depth) 1 x 0
-      → next ≡ laterOf g (Eval (seat .function) q (seat .count)) (g .depth + 1) (k + 2) (h + 1) → Paired w ws ls g seat ws′ (Go next)
+      → next ≡ laterOf g (Eval (seat .function) q (seat .count)) (g .depth + 1) (k + 2) → Paired w ws ls g seat ws′ (Go next)
   half-paired ws ws₁ ws′ next x k h q led eh room eq e₁ e n = half next refl (record {
     left = x;
     cost = k;
@@ -204,7 +204,7 @@ module _ {w ls : List ℕ} {g : Compact} {seat : Seat} {start at : ℕ} (t : Tag
 pub none-paired : (w ws ls : List ℕ) (g : Compact) (seat : Seat) (r : Progress) → r ≡ Value 0 → Paired w ws ls g seat ws r
 none-paired w ws ls g seat r e = neither (λ next u. let z : _≡_ {A = ℕ} 0 1 = cc in omega arith) refl
 
-pub whole-paired : (w ws ls : List ℕ) (g : Compact) (seat : Seat) (r : Progress) → Jumps w ls (length ws / 32) g seat ls r → Paired w ws ls g seat ws r
+pub whole-paired : (w ws ls : List ℕ) (g : Compact) (seat : Seat) (r : Progress) → Jumps w ls g seat ls r → Paired w ws ls g seat ws r
 unfolding Jumps
 whole-paired w ws ls g seat (Go next) j = whole next refl refl j
 whole-paired w ws ls g seat (Value v) j = neither (λ next u. let z : _≡_ {A = ℕ} 0 1 = cc in omega arith) refl

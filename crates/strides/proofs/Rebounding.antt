@@ -68,8 +68,8 @@ module _ {w ws starts : List ℕ} (top : ℕ) (op : Operand w ws (32 * top)) (e 
 
     -- it has the value y by k transitions, and the operation the value z
     pub rebounded : {g next : Compact} {v k h y z : ℕ} {c c′ : Computed} → k ≡ costAt w (getD starts (r .function) 0 + 4 * q) → h ≡ framesOf k
-        → (0 < k) × Roomy g (length ws / 32) (k + 2) h → c ≡ simpleAt w (getD starts (r .function) 0 + 4 * q) ws (localsWord (32 * top)) → c ≡ Is y
-        → c′ ≡ computed (numbered (getD w (getD starts (r .function) 0 + 4 * r .node + 1) 0)) v y → c′ ≡ Is z → next ≡ laterOf g (Ret z) top (k + 2) h → Rebound w ws g v top next
+        → (0 < k) × Roomy g (k + 2) h → c ≡ simpleAt w (getD starts (r .function) 0 + 4 * q) ws (localsWord (32 * top)) → c ≡ Is y
+        → c′ ≡ computed (numbered (getD w (getD starts (r .function) 0 + 4 * r .node + 1) 0)) v y → c′ ≡ Is z → next ≡ laterOf g (Ret z) top (k + 2) → Rebound w ws g v top next
     rebounded {g} {next} {v} {k} {h} {y} {z} is-k is-h room is-c value is-c′ result n =
         let a = at-arithmetic w (bodyAt w F) (op .stands .tree) (op .tag) in
         let same = two-node w F P (a .0) (bAt w (startOf w F) P) (op .tag) (a .1) in

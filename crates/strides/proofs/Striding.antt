@@ -12,7 +12,7 @@ use Rattle.schedule.specs.FrameMachine.{Control as FlatControl}
 use Rattle.schedule.specs.Algebra.{CostAlgebra, spans}
 use Rattle.schedule.specs.Machine.{Slot, ordinary, promotable, state, Result, ongoing}
 use Rattle.schedule.specs.Stretch.{later, transits, Room}
-use Rattle.schedule.proofs.Stretch.{code-leads, value-leads, code-opens, transits-span}
+use Rattle.schedule.proofs.Stretch.{raise-within, code-leads, value-leads, code-opens, transits-span}
 use Rattle.table.specs.Words.{startOf, tagAt, bAt, cAt}
 use Rattle.table.specs.Nodes.{nodeOf, nodeAt}
 use Rattle.table.specs.Read.{startsOf}
@@ -50,11 +50,11 @@ module _ (w ws ls : List ℕ) (plan : Plan) (g : Compact) (s : Starts w ws ls pl
   K = spans (plan .tau)
 
   -- SEVERAL STEPS: there is room for them
-  roomy : (able : Bool) (d k h : ℕ) → able ≡ promotable (stackOf ws (g .depth)) → d ≡ g .depth → Roomy g (length ws / 32) k h
+  roomy : (able : Bool) (d k h : ℕ) → able ≡ promotable (stackOf ws (g .depth)) → d ≡ g .depth → Roomy g k h
       → Room (plan .fuel .0) (length ws / 32) (plan .period) able d (full g .credits .0) (runCountsOf (full g)) k h
   roomy able d k h a e m = record {
     within-fuel = omega (arith, m .transitions, s .paced .fuel);
-    within-frames = omega (arith, m .within);
+    within-frames = omega (arith, m .within, s .ready .bounded .depth);
     calm = λ y. calm (ltb-true _ _ (sym (due-is ws (g .depth) (g .oldest) (s .ready .kept .oldest)) ∙ sym a ∙ y));
   }
     where
@@ -62,35 +62,35 @@ module _ (w ws ls : List ℕ) (plan : Plan) (g : Compact) (s : Starts w ws ls pl
       calm l = omega (arith, m .transitions, s .paced .since, s .paced .calm (omega (arith, l, s .ready .kept .room, s .ready .limits .frames)))
 
   -- the state at their end
-  ends : (to : Control) (d n k h : ℕ) (ws′ ls′ : List ℕ) (c : FlatControl Code) (S : List (Slot ℕ Frame Code)) → controlOf to ls′ ≡ c → stackOf ws′ d ≡ S → n ≡ g .depth
+  ends : (to : Control) (d n k h : ℕ) (ws′ ls′ : List ℕ) (c : FlatControl Code) (S : List (Slot ℕ Frame Code)) → controlOf to ls′ ≡ c → stackOf ws′ d ≡ S → n ≡ g .depth → Roomy g k h
       → _≡_ {A = Result K (language w)} (ongoing (state c S (full g .credits .0 + k) (transits K k (full g .span .0)) (later k n h (runCountsOf (full g)))))
-      (ongoing (stateOf w (plan .tau) ws′ ls′ (full (laterOf g to d k h))))
-  ends to d n k h ws′ ls′ c S a b e =
+      (ongoing (stateOf w (plan .tau) ws′ ls′ (full (laterOf g to d k))))
+  ends to d n k h ws′ ls′ c S a b e m =
       let x : g .transitions - g .since + k ≡ g .transitions + k - g .since = omega (arith, s .paced .since) in
       let y : g .before .0 + (g .transitions - g .since) + k ≡ g .before .0 + (g .transitions + k - g .since) = omega (arith, s .paced .since) in
-      rw (transits-span (plan .tau) k (full g .span .0), a, b, e, x, y)
+      rw (transits-span (plan .tau) k (full g .span .0), a, b, e, x, y, raise-within (g .deepest) (g .depth) h (m .within))
 
   -- the registers then
-  many-strides : (to : Control) (d k h : ℕ) (ws′ ls′ : List ℕ) (next : Compact) → next ≡ laterOf g to d k h → Many w ws ls plan (full g) ws′ ls′ (full (laterOf g to d k h))
+  many-strides : (to : Control) (d k : ℕ) (ws′ ls′ : List ℕ) (next : Compact) → next ≡ laterOf g to d k → Many w ws ls plan (full g) ws′ ls′ (full (laterOf g to d k))
       → Strides w ws ls plan g ws′ ls′ (Go next)
   unfolding stepOf PacedBy
-  many-strides to d k h ws′ ls′ next e m = rw e (record {
-    strode = many (full (laterOf g to d k h)) refl m;
+  many-strides to d k ws′ ls′ next e m = rw e (record {
+    strode = many (full (laterOf g to d k)) refl m;
     paced = record { since = omega (arith, s .paced .since); fuel = s .paced .fuel; calm = s .paced .calm };
   })
 
   -- a node
   module _ (seat : Seat) (e : g .control ≡ Eval (seat .function) (seat .node) (seat .count)) where
-    pub jump-strides : (ls′ : List ℕ) (next : Compact) → Jump w ls (length ws / 32) g seat ls′ next → Strides w ws ls plan g ws ls′ (Go next)
+    pub jump-strides : (ls′ : List ℕ) (next : Compact) → Jump w ls g seat ls′ next → Strides w ws ls plan g ws ls′ (Go next)
     unfolding controlOf
     jump-strides ls′ next j =
         let S = stackOf ws (g .depth) in
         let n = length-stack ws (g .depth) in
         let k = j .more + 1 in
         let runs = code-leads K (language w) (plan .fuel .0) (length ws / 32) (plan .birth) (plan .period) _ _ k (j .most) (j .leads) S (full g .credits .0) (full g .span .0) (runCountsOf (full g)) (roomy (promotable S) (length S) k (j .most) refl n (j .room)) in
-        many-strides (j .to) (g .depth) k (j .most) ws ls′ next (j .is) (record {
+        many-strides (j .to) (g .depth) k ws ls′ next (j .is) (record {
           more = j .more;
-          same = rw e (runs ∙ ends (j .to) (g .depth) (length S) k (j .most) ws ls′ _ S refl refl n);
+          same = rw e (runs ∙ ends (j .to) (g .depth) (length S) k (j .most) ws ls′ _ S refl refl n (j .room));
           kept = record {
             table = s .ready .kept .table;
             sixteen = j .sixteen;
@@ -114,7 +114,7 @@ module _ (w ws ls : List ℕ) (plan : Plan) (g : Compact) (s : Starts w ws ls pl
         let S = stackOf ws d in
         let l = length-stack ws d in
         let code = codeOf seat (seat .node) ls in
-        let room : 32 * d + 32 ≤ length ws = omega (arith, j .room .within) in
+        let room : 32 * d + 32 ≤ length ws = omega (arith, j .room .within, s .ready .bounded .depth) in
         let ws₁ = pushed ws (32 * d) 1 (seat .function) (seat .node) (seat .count) ls 0 in
         let p : Pushed ws ws₁ (32 * d) 1 (seat .function) (seat .node) (seat .count) ls 0 = is-pushed ws ws₁ (32 * d) room 1 (seat .function) (seat .node) (seat .count) ls 0 (here .few) (kept .sixteen) refl in
         let u : Turned ws₁ ws′ (32 * d) 1 (j .left) 0 = is-turned ws₁ ws′ (32 * d) (omega (arith, p .long)) 1 (j .left) 0 (j .words) in
@@ -131,9 +131,9 @@ module _ (w ws ls : List ℕ) (plan : Plan) (g : Compact) (s : Starts w ws ls pl
         let runs = code-opens K (language w) (plan .fuel .0) (length ws / 32) (plan .birth) (plan .period) code (first code) (at code (second w code) (code .locals)) (left-operand code) (right-operand code (j .left)) (j .left) (j .cost) (j .most) opens (j .first) refl
         S (full g .credits .0) (full g .span .0) (runCountsOf (full g)) (roomy (promotable S) (length S) k (j .most + 1) refl l (j .room)) in
         let to = Eval (seat .function) (j .right) (seat .count) in
-        many-strides to (d + 1) k (j .most + 1) ws′ ls n (j .is) (record {
+        many-strides to (d + 1) k ws′ ls n (j .is) (record {
           more = j .cost + 1;
-          same = rw (two, e) (runs ∙ ends to (d + 1) (length S) k (j .most + 1) ws′ ls _ _ (rw (j .second)) stack l);
+          same = rw (two, e) (runs ∙ ends to (d + 1) (length S) k (j .most + 1) ws′ ls _ _ (rw (j .second)) stack l (j .room));
           kept = record {
             table = kept .table;
             sixteen = kept .sixteen;
@@ -159,9 +159,9 @@ module _ (w ws ls : List ℕ) (plan : Plan) (g : Compact) (s : Starts w ws ls pl
         let deep : length S + 1 ≡ g .depth = omega arith in
         let i = j .more + 1 in
         let runs = value-leads K (language w) (plan .fuel .0) (length ws / 32) (plan .birth) (plan .period) _ v (return (j .value)) i (j .most) (j .through) S (full g .credits .0) (full g .span .0) (runCountsOf (full g)) (roomy (promotable S) (length S + 1) i (j .most) able deep (j .room)) in
-        many-strides (Ret (j .value)) top i (j .most) ws ls next (j .is) (record {
+        many-strides (Ret (j .value)) top i ws ls next (j .is) (record {
           more = j .more;
-          same = rw (e, whole) (runs ∙ ends (Ret (j .value)) top (length S + 1) i (j .most) ws ls _ S refl refl deep);
+          same = rw (e, whole) (runs ∙ ends (Ret (j .value)) top (length S + 1) i (j .most) ws ls _ S refl refl deep (j .room));
           kept = record {
             table = s .ready .kept .table;
             sixteen = s .ready .kept .sixteen;
@@ -178,11 +178,11 @@ pub neither : (_≡_ {A = ℕ} 0 1) ⊎ (_≡_ {A = ℕ} 0 2) → ⊥
 neither (inl e) = absurd (omega arith)
 neither (inr e) = absurd (omega arith)
 
-pub jumps-none : (w ls : List ℕ) (frames : ℕ) (g : Compact) (seat : Seat) (ls′ : List ℕ) (r : Progress) → Jumps w ls frames g seat ls′ r → ((next : Compact) → r ≡ Go next → ⊥) → ls′ ≡ ls
+pub jumps-none : (w ls : List ℕ) (g : Compact) (seat : Seat) (ls′ : List ℕ) (r : Progress) → Jumps w ls g seat ls′ r → ((next : Compact) → r ≡ Go next → ⊥) → ls′ ≡ ls
 unfolding Jumps
-jumps-none w ls frames g seat ls′ (Go next) j n = absurd (n next refl)
-jumps-none w ls frames g seat ls′ (Value v) j n = j
-jumps-none w ls frames g seat ls′ (Halt h) j n = j
+jumps-none w ls g seat ls′ (Go next) j n = absurd (n next refl)
+jumps-none w ls g seat ls′ (Value v) j n = j
+jumps-none w ls g seat ls′ (Halt h) j n = j
 
 pub paired-none : (w ws ls : List ℕ) (g : Compact) (seat : Seat) (ws′ : List ℕ) (r : Progress) → Paired w ws ls g seat ws′ r → ((next : Compact) → r ≡ Go next → ⊥) → ws′ ≡ ws
 paired-none w ws ls g seat ws′ r (whole next e i j) n = i
@@ -203,7 +203,7 @@ module _ (w ws ls : List ℕ) (plan : Plan) (g : Compact) (seat : Seat) (start a
   pub frame-fits : (ws₁ ls₁ : List ℕ) → ws₁ ≡ ws → ls₁ ≡ ls → Framed ws₁ ls₁ (full g) seat × Paced plan g
   frame-fits ws₁ ls₁ x y = rw (x, y) (site-framed v, set-out .paced)
 
-  pub jumps-strides : (ls′ : List ℕ) (r : Progress) (next : Compact) → r ≡ Go next → Jumps w ls (length ws / 32) g seat ls′ r → Strides w ws ls plan g ws ls′ (Go next)
+  pub jumps-strides : (ls′ : List ℕ) (r : Progress) (next : Compact) → r ≡ Go next → Jumps w ls g seat ls′ r → Strides w ws ls plan g ws ls′ (Go next)
   unfolding Jumps
   jumps-strides ls′ r next e j = jump-strides w ws ls plan g set-out seat (v .is) ls′ next (rw e at j)
 

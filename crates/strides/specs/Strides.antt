@@ -81,21 +81,21 @@ abbrev pub codeOf : Seat → ℕ → List ℕ → Code
 codeOf seat p ls = record { function = seat .function; node = p; locals = take (seat .count) ls }
 
 -- WHAT A NODE LEADS TO, with no frame written
-pub record Jump (w ls : List ℕ) (frames : ℕ) (g : Compact) (seat : Seat) (ls′ : List ℕ) (next : Compact) : Type 0 where
+pub record Jump (w ls : List ℕ) (g : Compact) (seat : Seat) (ls′ : List ℕ) (next : Compact) : Type 0 where
   pub to : Control
   pub more : ℕ
   pub most : ℕ
-  pub is : next ≡ laterOf g to (g .depth) (more + 1) most
+  pub is : next ≡ laterOf g to (g .depth) (more + 1)
   pub leads : Leads (language w) (codeOf seat (seat .node) ls) (controlOf to ls′) (more + 1) most
-  pub room : Roomy g frames (more + 1) most
+  pub room : Roomy g (more + 1) most
   pub stands : Controlled w to
   pub sixteen : length ls′ ≡ 16
 
 -- or nothing comes of it
-unfoldable pub Jumps : (w ls : List ℕ) (frames : ℕ) (g : Compact) (seat : Seat) (ls′ : List ℕ) → Progress → Type 0
-Jumps w ls frames g seat ls′ (Go next) = Jump w ls frames g seat ls′ next
-Jumps w ls frames g seat ls′ (Value v) = ls′ ≡ ls
-Jumps w ls frames g seat ls′ (Halt h) = ls′ ≡ ls
+unfoldable pub Jumps : (w ls : List ℕ) (g : Compact) (seat : Seat) (ls′ : List ℕ) → Progress → Type 0
+Jumps w ls g seat ls′ (Go next) = Jump w ls g seat ls′ next
+Jumps w ls g seat ls′ (Value v) = ls′ ≡ ls
+Jumps w ls g seat ls′ (Halt h) = ls′ ≡ ls
 
 -- AN ARITHMETIC'S FRAME WITH ITS LEFT OPERAND x, which has its value by k transitions and so many frames: the right operand at q is next
 pub record Half (w ws ls : List ℕ) (g : Compact) (seat : Seat) (ws′ : List ℕ) (next : Compact) : Type 0 where
@@ -103,15 +103,15 @@ pub record Half (w ws ls : List ℕ) (g : Compact) (seat : Seat) (ws′ : List �
   pub cost : ℕ
   pub most : ℕ
   pub right : ℕ
-  pub is : next ≡ laterOf g (Eval (seat .function) right (seat .count)) (g .depth + 1) (cost + 2) (most + 1)
+  pub is : next ≡ laterOf g (Eval (seat .function) right (seat .count)) (g .depth + 1) (cost + 2)
   pub first : Leads (language w) (codeOf seat (seat .node + 1) ls) (return left) cost most
   pub second : right ≡ getD w (startOf w (seat .function) + 4 * seat .node + 2) 0
-  pub room : Roomy g (length ws / 32) (cost + 2) (most + 1)
+  pub room : Roomy g (cost + 2) (most + 1)
   pub words : ws′ ≡ turned (pushed ws (32 * g .depth) 1 (seat .function) (seat .node) (seat .count) ls 0) (32 * g .depth) 1 left 0
 
 -- an arithmetic whose left operand is simple: both operands, or its frame with the left one
 pub data Paired (w ws ls : List ℕ) (g : Compact) (seat : Seat) (ws′ : List ℕ) (r : Progress) : Type 0 where
-  whole : (next : Compact) → r ≡ Go next → ws′ ≡ ws → Jump w ls (length ws / 32) g seat ls next → Paired w ws ls g seat ws′ r
+  whole : (next : Compact) → r ≡ Go next → ws′ ≡ ws → Jump w ls g seat ls next → Paired w ws ls g seat ws′ r
   half : (next : Compact) → r ≡ Go next → Half w ws ls g seat ws′ next → Paired w ws ls g seat ws′ r
   neither : ((next : Compact) → r ≡ Go next → ⊥) → ws′ ≡ ws → Paired w ws ls g seat ws′ r
 
@@ -126,9 +126,9 @@ pub record Rebound (w ws : List ℕ) (g : Compact) (v top : ℕ) (next : Compact
   pub value : ℕ
   pub more : ℕ
   pub most : ℕ
-  pub is : next ≡ laterOf g (Ret value) top (more + 1) most
+  pub is : next ≡ laterOf g (Ret value) top (more + 1)
   pub through : Through (language w) (left-operand (codeAt ws (32 * top))) v (return value) (more + 1) most
-  pub room : Roomy g (length ws / 32) (more + 1) most
+  pub room : Roomy g (more + 1) most
 
 unfoldable pub Rebounds : (w ws : List ℕ) (g : Compact) (v top : ℕ) → Progress → Type 0
 Rebounds w ws g v top (Go next) = Rebound w ws g v top next

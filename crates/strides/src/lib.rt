@@ -31,7 +31,6 @@ fn whole(
     start: usize,
     at: usize,
     seat: Seat,
-    ws: &[u64],
     locals: &[u64],
     g: Compact,
     x: u64,
@@ -40,10 +39,10 @@ fn whole(
     l: u64,
 ) -> Progress
     requires { ⌜ (Tagged (now words) (now locals) g seat start at 2) × (Led (now words) (now locals) seat x k) × (right ≡ start + 4 * getD (now words) (at + 2) 0) × (l ≡ costAt (now words) right) × (0 < l) ⌝ }
-    ensures { λ r. ⌜ Jumps (now (words .entry)) (now (locals .entry)) (length (now (ws .entry)) / 32) g seat (now (locals .entry)) r ⌝ }
+    ensures { λ r. ⌜ Jumps (now (words .entry)) (now (locals .entry)) g seat (now (locals .entry)) r ⌝ }
 {
     let h = compact::higher(operands::frames_of(k), operands::frames_of(l)) + 1;
-    if compact::fits(g, ws.len() / frames::WORDS, k + l, 3, h) {
+    if compact::fits(g, k + l, 3, h) {
         match operands::simple(words, right, locals, 0) {
             Computed::Is(y) => match operands::operate(words[at + 1], x, y) {
                 Computed::Is(v) => Progress::Go(compact::later(
@@ -51,7 +50,6 @@ fn whole(
                     Control::Ret(v),
                     g.depth,
                     k + l + 3,
-                    h,
                 )),
                 Computed::Fails(_) => compact::none(),
             },
@@ -74,11 +72,11 @@ fn half(
     x: u64,
     k: u64,
 ) -> Progress
-    requires { ⌜ (Tagged (now words) (now locals) g seat start at 2) × (Led (now words) (now locals) seat x k) × (length (now ws) / 32 ≤ 4096) ⌝ }
+    requires { ⌜ (Tagged (now words) (now locals) g seat start at 2) × (Led (now words) (now locals) seat x k) × (length (now ws) / 32 ≤ 4096) × (g .deepest ≤ length (now ws) / 32) ⌝ }
     ensures { λ r. ⌜ Paired (now (words .entry)) (now (ws .entry)) (now (locals .entry)) g seat (now (ws .exit)) r ⌝ }
 {
     let h = operands::frames_of(k) + 1;
-    if compact::fits(g, ws.len() / frames::WORDS, k, 2, h) {
+    if compact::fits(g, k, 2, h) {
         let depth = g.depth;
         let f = seat.function;
         let count = seat.count;
@@ -86,7 +84,7 @@ fn half(
         frames::push(ws, b, moves::RIGHT_OPERAND, seat, locals, Span::none());
         frames::turn(ws, b, moves::RIGHT_OPERAND, x, Span::none());
         let control = Control::Eval(f, operands::wide(words[at + 2]), count);
-        Progress::Go(compact::later(g, control, depth + 1, k + 2, h))
+        Progress::Go(compact::later(g, control, depth + 1, k + 2))
     } else {
         compact::none()
     }
@@ -104,13 +102,13 @@ fn paired(
     x: u64,
     k: u64,
 ) -> Progress
-    requires { ⌜ (Tagged (now words) (now locals) g seat start at 2) × (Led (now words) (now locals) seat x k) × (length (now ws) / 32 ≤ 4096) ⌝ }
+    requires { ⌜ (Tagged (now words) (now locals) g seat start at 2) × (Led (now words) (now locals) seat x k) × (length (now ws) / 32 ≤ 4096) × (g .deepest ≤ length (now ws) / 32) ⌝ }
     ensures { λ r. ⌜ Paired (now (words .entry)) (now (ws .entry)) (now (locals .entry)) g seat (now (ws .exit)) r ⌝ }
 {
     let right = start + 4 * operands::wide(words[at + 2]);
     let l = operands::cost(words, right);
     if 0 < l {
-        whole(words, start, at, seat, ws, locals, g, x, k, right, l)
+        whole(words, start, at, seat, locals, g, x, k, right, l)
     } else {
         half(words, start, at, seat, ws, locals, g, x, k)
     }
@@ -126,7 +124,7 @@ fn pair(
     locals: &[u64],
     g: Compact,
 ) -> Progress
-    requires { ⌜ (Tagged (now words) (now locals) g seat start at 2) × (length (now ws) / 32 ≤ 4096) ⌝ }
+    requires { ⌜ (Tagged (now words) (now locals) g seat start at 2) × (length (now ws) / 32 ≤ 4096) × (g .deepest ≤ length (now ws) / 32) ⌝ }
     ensures { λ r. ⌜ Paired (now (words .entry)) (now (ws .entry)) (now (locals .entry)) g seat (now (ws .exit)) r ⌝ }
 {
     let k = operands::cost(words, at + 4);
@@ -158,20 +156,19 @@ fn choose(
     start: usize,
     at: usize,
     seat: Seat,
-    ws: &[u64],
     locals: &[u64],
     g: Compact,
 ) -> Progress
     requires { ⌜ Tagged (now words) (now locals) g seat start at 3 ⌝ }
-    ensures { λ r. ⌜ Jumps (now (words .entry)) (now (locals .entry)) (length (now (ws .entry)) / 32) g seat (now (locals .entry)) r ⌝ }
+    ensures { λ r. ⌜ Jumps (now (words .entry)) (now (locals .entry)) g seat (now (locals .entry)) r ⌝ }
 {
     let k = operands::cost(words, at + 4);
     let h = operands::frames_of(k) + 1;
-    if compact::fits(g, ws.len() / frames::WORDS, k, 2, h) {
+    if compact::fits(g, k, 2, h) {
         match operands::simple(words, at + 4, locals, 0) {
             Computed::Is(x) => {
                 let control = Control::Eval(seat.function, branch(words, at, x), seat.count);
-                Progress::Go(compact::later(g, control, g.depth, k + 2, h))
+                Progress::Go(compact::later(g, control, g.depth, k + 2))
             }
             Computed::Fails(_) => compact::none(),
         }
@@ -186,16 +183,15 @@ fn bind(
     start: usize,
     at: usize,
     seat: Seat,
-    ws: &[u64],
     locals: &mut [u64],
     g: Compact,
 ) -> Progress
     requires { ⌜ Tagged (now words) (now locals) g seat start at 4 ⌝ }
-    ensures { λ r. ⌜ Jumps (now (words .entry)) (now (locals .entry)) (length (now (ws .entry)) / 32) g seat (now (locals .exit)) r ⌝ }
+    ensures { λ r. ⌜ Jumps (now (words .entry)) (now (locals .entry)) g seat (now (locals .exit)) r ⌝ }
 {
     let k = operands::cost(words, at + 4);
     let h = operands::frames_of(k) + 1;
-    if compact::fits(g, ws.len() / frames::WORDS, k, 2, h) {
+    if compact::fits(g, k, 2, h) {
         match operands::simple(words, at + 4, locals, 0) {
             Computed::Is(x) => {
                 let count = seat.count;
@@ -205,7 +201,7 @@ fn bind(
                     operands::wide(words[at + 2]),
                     count + 1,
                 );
-                Progress::Go(compact::later(g, control, g.depth, k + 2, h))
+                Progress::Go(compact::later(g, control, g.depth, k + 2))
             }
             Computed::Fails(_) => compact::none(),
         }
@@ -220,21 +216,20 @@ fn call_one(
     start: usize,
     at: usize,
     seat: Seat,
-    ws: &[u64],
     locals: &mut [u64],
     g: Compact,
     f: usize,
 ) -> Progress
     requires { ⌜ (Tagged (now words) (now locals) g seat start at 5) × (f ≡ getD (now words) (at + 1) 0) × (arityAt (now words) f ≡ 1) ⌝ }
-    ensures { λ r. ⌜ Jumps (now (words .entry)) (now (locals .entry)) (length (now (ws .entry)) / 32) g seat (now (locals .exit)) r ⌝ }
+    ensures { λ r. ⌜ Jumps (now (words .entry)) (now (locals .entry)) g seat (now (locals .exit)) r ⌝ }
 {
     let k = operands::cost(words, at + 4);
     let h = operands::frames_of(k) + 1;
-    if compact::fits(g, ws.len() / frames::WORDS, k, 2, h) {
+    if compact::fits(g, k, 2, h) {
         match operands::simple(words, at + 4, locals, 0) {
             Computed::Is(x) => {
                 frames::append(locals, 0, x);
-                Progress::Go(compact::later(g, Control::Eval(f, 0, 1), g.depth, k + 2, h))
+                Progress::Go(compact::later(g, Control::Eval(f, 0, 1), g.depth, k + 2))
             }
             Computed::Fails(_) => compact::none(),
         }
@@ -249,25 +244,24 @@ fn call_two(
     start: usize,
     at: usize,
     seat: Seat,
-    ws: &[u64],
     locals: &mut [u64],
     g: Compact,
     f: usize,
 ) -> Progress
     requires { ⌜ (Tagged (now words) (now locals) g seat start at 5) × (f ≡ getD (now words) (at + 1) 0) × (arityAt (now words) f ≡ 2) ⌝ }
-    ensures { λ r. ⌜ Jumps (now (words .entry)) (now (locals .entry)) (length (now (ws .entry)) / 32) g seat (now (locals .exit)) r ⌝ }
+    ensures { λ r. ⌜ Jumps (now (words .entry)) (now (locals .entry)) g seat (now (locals .exit)) r ⌝ }
 {
     let two = start + 4 * operands::wide(words[at + 2]);
     let k = operands::cost(words, at + 4);
     let l = operands::cost(words, two);
     let h = compact::higher(operands::frames_of(k), operands::frames_of(l)) + 1;
-    if compact::fits(g, ws.len() / frames::WORDS, operands::both(k, l), 3, h) {
+    if compact::fits(g, operands::both(k, l), 3, h) {
         match operands::simple(words, at + 4, locals, 0) {
             Computed::Is(x) => match operands::simple(words, two, locals, 0) {
                 Computed::Is(y) => {
                     frames::append(locals, 0, x);
                     frames::append(locals, 1, y);
-                    Progress::Go(compact::later(g, Control::Eval(f, 0, 2), g.depth, k + l + 3, h))
+                    Progress::Go(compact::later(g, Control::Eval(f, 0, 2), g.depth, k + l + 3))
                 }
                 Computed::Fails(_) => compact::none(),
             },
@@ -284,13 +278,12 @@ fn call_three(
     start: usize,
     at: usize,
     seat: Seat,
-    ws: &[u64],
     locals: &mut [u64],
     g: Compact,
     f: usize,
 ) -> Progress
     requires { ⌜ (Tagged (now words) (now locals) g seat start at 5) × (f ≡ getD (now words) (at + 1) 0) × (arityAt (now words) f ≡ 3) ⌝ }
-    ensures { λ r. ⌜ Jumps (now (words .entry)) (now (locals .entry)) (length (now (ws .entry)) / 32) g seat (now (locals .exit)) r ⌝ }
+    ensures { λ r. ⌜ Jumps (now (words .entry)) (now (locals .entry)) g seat (now (locals .exit)) r ⌝ }
 {
     let two = start + 4 * operands::wide(words[at + 2]);
     let three = start + 4 * operands::wide(words[at + 3]);
@@ -302,13 +295,7 @@ fn call_three(
         compact::higher(operands::frames_of(l), operands::frames_of(m)),
     )
         + 1;
-    if compact::fits(
-        g,
-        ws.len() / frames::WORDS,
-        operands::both(operands::both(k, l), m),
-        4,
-        h,
-    ) {
+    if compact::fits(g, operands::both(operands::both(k, l), m), 4, h) {
         match operands::simple(words, at + 4, locals, 0) {
             Computed::Is(x) => match operands::simple(words, two, locals, 0) {
                 Computed::Is(y) => match operands::simple(words, three, locals, 0) {
@@ -321,7 +308,6 @@ fn call_three(
                             Control::Eval(f, 0, 3),
                             g.depth,
                             k + l + m + 4,
-                            h,
                         ))
                     }
                     Computed::Fails(_) => compact::none(),
@@ -341,19 +327,18 @@ fn call(
     start: usize,
     at: usize,
     seat: Seat,
-    ws: &[u64],
     locals: &mut [u64],
     g: Compact,
     f: usize,
     arity: usize,
 ) -> Progress
     requires { ⌜ (Tagged (now words) (now locals) g seat start at 5) × (f ≡ getD (now words) (at + 1) 0) × (arity ≡ arityAt (now words) f) ⌝ }
-    ensures { λ r. ⌜ Jumps (now (words .entry)) (now (locals .entry)) (length (now (ws .entry)) / 32) g seat (now (locals .exit)) r ⌝ }
+    ensures { λ r. ⌜ Jumps (now (words .entry)) (now (locals .entry)) g seat (now (locals .exit)) r ⌝ }
 {
     match arity {
-        1 => call_one(words, start, at, seat, ws, locals, g, f),
-        2 => call_two(words, start, at, seat, ws, locals, g, f),
-        3 => call_three(words, start, at, seat, ws, locals, g, f),
+        1 => call_one(words, start, at, seat, locals, g, f),
+        2 => call_two(words, start, at, seat, locals, g, f),
+        3 => call_three(words, start, at, seat, locals, g, f),
         _ => compact::none(),
     }
 }
@@ -393,7 +378,7 @@ fn evaluate_choose(
     requires { ⌜ Evaluating (now words) (now ws) (now locals) plan g seat start at 3 ⌝ }
     ensures { λ r. ⌜ Strides (now (words .entry)) (now (ws .entry)) (now (locals .entry)) plan g (now (ws .exit)) (now (locals .entry)) r ⌝ }
 {
-    let step = choose(words, start, at, seat, ws, locals, g);
+    let step = choose(words, start, at, seat, locals, g);
     let Progress::Go(next) = step else {
         return compact::open(ws, locals, plan, g, seat, moves::CONDITION);
     };
@@ -414,7 +399,7 @@ fn evaluate_let(
     requires { ⌜ Evaluating (now words) (now ws) (now locals) plan g seat start at 4 ⌝ }
     ensures { λ r. ⌜ Strides (now (words .entry)) (now (ws .entry)) (now (locals .entry)) plan g (now (ws .exit)) (now (locals .exit)) r ⌝ }
 {
-    let step = bind(words, start, at, seat, ws, locals, g);
+    let step = bind(words, start, at, seat, locals, g);
     let Progress::Go(next) = step else {
         return compact::open(ws, locals, plan, g, seat, moves::BINDING);
     };
@@ -437,7 +422,7 @@ fn evaluate_arguments(
     requires { ⌜ (Evaluating (now words) (now ws) (now locals) plan g seat start at 5) × (f ≡ getD (now words) (at + 1) 0) × (arity ≡ arityAt (now words) f) × (0 < arity) ⌝ }
     ensures { λ r. ⌜ Strides (now (words .entry)) (now (ws .entry)) (now (locals .entry)) plan g (now (ws .exit)) (now (locals .exit)) r ⌝ }
 {
-    let step = call(words, start, at, seat, ws, locals, g, f, arity);
+    let step = call(words, start, at, seat, locals, g, f, arity);
     let Progress::Go(next) = step else {
         return compact::open(ws, locals, plan, g, seat, moves::ARGUMENT);
     };
@@ -544,10 +529,10 @@ fn rebound(words: &[u32], starts: &[usize], ws: &[u64], g: Compact, v: u64, top:
     let right = start + 4 * operands::wide(words[at + 2]);
     let k = operands::cost(words, right);
     let h = operands::frames_of(k);
-    if compact::fits(g, ws.len() / frames::WORDS, k, 2, h) {
+    if compact::fits(g, k, 2, h) {
         match operands::simple(words, right, ws, b + frames::LOCALS) {
             Computed::Is(y) => match operands::operate(words[at + 1], v, y) {
-                Computed::Is(z) => Progress::Go(compact::later(g, Control::Ret(z), top, k + 2, h)),
+                Computed::Is(z) => Progress::Go(compact::later(g, Control::Ret(z), top, k + 2)),
                 Computed::Fails(_) => compact::none(),
             },
             Computed::Fails(_) => compact::none(),

@@ -7,10 +7,10 @@ use Rattle.strides.proofs.bind.Statement.{statement}
 use Rattle.strides.proofs.bind.Tie as tie
 
 add-cost : tie.Need-add-cost
-add-cost c = omega (arith, within (c .before .before .before .pre .site))
+add-cost c = omega (arith, within (c .before .before .pre .site))
 
 cost-requires : tie.Need-cost-requires
-cost-requires c κs = first-cost (c .before .before .before .pre .site) (let-first (c .before .before .before .pre))
+cost-requires c κs = first-cost (c .before .before .pre .site) (let-first (c .before .before .pre))
 
 frames-of-requires : tie.Need-frames-of-requires
 frames-of-requires c κs = search needs
@@ -20,15 +20,15 @@ add-h c = omega (arith, one-frame _ (c .before .cost .result) (c .frames-of .ens
 
 fits-requires : tie.Need-fits-requires
 fits-requires c κs =
-    let p = c .before .before .before .before .before .pre .site in
+    let p = c .before .before .before .before .pre .site in
     (p .small, omega (arith, first-few p _ (c .before .cost .ensures)), omega arith, omega (arith, one-frame _ (c .before .cost .result) (c .frames-of .ensures)))
 
 add-simple : tie.Need-add-simple
-add-simple c = omega (arith, within (c .before .before .before .before .before .before .before .pre .site))
+add-simple c = omega (arith, within (c .before .before .before .before .before .before .pre .site))
 
 simple-requires : tie.Need-simple-requires
 simple-requires c κs =
-    let p = c .before .before .before .before .before .before .before .before .pre in
+    let p = c .before .before .before .before .before .before .before .pre in
     first-simple (p .site) (let-first p) _ (c .before .before .before .before .cost .ensures) (c .before .before .fits2 .ensures (c .before .if1 .taken) .0)
 
 enum-known-x : tie.Need-enum-known-x
@@ -36,32 +36,32 @@ enum-known-x c = search needs
 
 append-requires : tie.Need-append-requires
 append-requires c κs =
-    let p = c .before .before .before .before .before .before .before .before .before .before .before .before .before .pre in
+    let p = c .before .before .before .before .before .before .before .before .before .before .before .before .pre in
     (let-few p, p .site .sixteen)
 
 add-wide : tie.Need-add-wide
-add-wide c = omega (arith, within (c .before .before .before .before .before .before .before .before .before .before .before .before .before .before .before .before .pre .site))
+add-wide c = omega (arith, within (c .before .before .before .before .before .before .before .before .before .before .before .before .before .before .before .pre .site))
 
 mul-wide : tie.Need-mul-wide
-mul-wide c = omega (arith, within (c .before .before .before .before .before .before .before .before .before .before .before .before .before .before .before .before .pre .site))
+mul-wide c = omega (arith, within (c .before .before .before .before .before .before .before .before .before .before .before .before .before .before .before .pre .site))
 
 shared-slice-read-wide : tie.Need-shared-slice-read-wide
-shared-slice-read-wide c = omega (arith, within (c .before .before .before .before .before .before .before .before .before .before .before .before .before .before .before .before .before .pre .site))
+shared-slice-read-wide c = omega (arith, within (c .before .before .before .before .before .before .before .before .before .before .before .before .before .before .before .before .pre .site))
 
 wide-requires : tie.Need-wide-requires
 wide-requires c κs = search needs
 
-add-t30 : tie.Need-add-t30
-add-t30 c = search needs
+add-t28 : tie.Need-add-t28
+add-t28 c = search needs
 
 add-later : tie.Need-add-later
-add-later c = omega (arith, first-few (c .before .before .before .before .before .before .before .before .before .before .before .before .before .before .before .before .before .before .pre .site) _ (c .before .before .before .before .before .before .before .before .before .before .before .before .before .before .cost .ensures))
+add-later c = omega (arith, first-few (c .before .before .before .before .before .before .before .before .before .before .before .before .before .before .before .before .before .pre .site) _ (c .before .before .before .before .before .before .before .before .before .before .before .before .before .before .cost .ensures))
 
 later-requires : tie.Need-later-requires
 later-requires c κs =
-    let p = c .before .before .before .before .before .before .before .before .before .before .before .before .before .before .before .before .before .before .pre .site in
+    let p = c .before .before .before .before .before .before .before .before .before .before .before .before .before .before .before .before .before .pre .site in
     let k = c .before .before .before .before .before .before .before .before .before .before .before .before .before .before .cost in
-    (p .small, omega (arith, first-few p _ (k .ensures)), omega (arith, one-frame _ (k .result) (c .before .before .before .before .before .before .before .before .before .before .before .before .before .frames-of .ensures)))
+    (p .small, omega (arith, first-few p _ (k .ensures)))
 
 enum-told : tie.Need-enum-told
 enum-told c = search needs
@@ -78,19 +78,19 @@ same-length c = search needs
 returns : tie.Need-returns
 unfolding Jumps
 returns c =
-    let p = c .before .before .before .before .before .before .before .before .before .before .before .before .before .before .before .before .before .before .before .pre in
+    let p = c .before .before .before .before .before .before .before .before .before .before .before .before .before .before .before .before .before .before .pre in
     let fit = c .before .before .before .before .before .before .before .before .before .before .before .before .before .fits2 .ensures (c .before .before .before .before .before .before .before .before .before .before .before .before .if1 .taken) in
     let led = first-led (p .site) (let-first p) _ (c .before .before .before .before .before .before .before .before .before .before .before .before .before .before .before .cost .ensures) (fit .0) _ (c .before .before .before .before .before .before .before .before .before .before .simple .ensures) _ (c .before .before .before .before .before .before .before .before .x .given .1) in
-    jump-let p _ _ _ _ _ _ _ led (c .before .before .before .before .before .before .before .before .before .before .before .before .before .before .frames-of .ensures) (fit .1) (c .before .wide .ensures) (c .before .before .before .before .before .append .ensures) (c .later .ensures)
+    jump-let p _ _ _ _ _ _ led (c .before .before .before .before .before .before .before .before .before .before .before .before .before .before .frames-of .ensures) (fit .1) (c .before .wide .ensures) (c .before .before .before .before .before .append .ensures) (c .later .ensures)
 
 same-length-2 : tie.Need-same-length-2
 same-length-2 c = search needs
 
 returns-2 : tie.Need-returns-2
-returns-2 c = none-jumps _ _ _ _ _ _ (c .none .ensures)
+returns-2 c = none-jumps _ _ _ _ _ (c .none .ensures)
 
 returns-3 : tie.Need-returns-3
-returns-3 c = none-jumps _ _ _ _ _ _ (c .none2 .ensures)
+returns-3 c = none-jumps _ _ _ _ _ (c .none2 .ensures)
 
 pub bind-spec : {M : Type 1} → statement M
 bind-spec =
@@ -109,7 +109,7 @@ bind-spec =
     mul-wide
     shared-slice-read-wide
     wide-requires
-    add-t30
+    add-t28
     add-later
     later-requires
     enum-told

@@ -11,11 +11,11 @@ use Rattle.strides.proofs.call_one.Statement.{statement}
 use Rattle.strides.proofs.call_one.Tie as tie
 
 add-cost : tie.Need-add-cost
-add-cost c = omega (arith, here-inside _ _ _ _ _ _ (c .before .before .before .pre .0 .site))
+add-cost c = omega (arith, here-inside _ _ _ _ _ _ (c .before .before .pre .0 .site))
 
 cost-requires : tie.Need-cost-requires
 cost-requires c κs =
-    let p = c .before .before .before in
+    let p = c .before .before in
     first-cost (p .pre .0) (p .pre .1) (omega arith)
 
 frames-of-requires : tie.Need-frames-of-requires
@@ -26,15 +26,15 @@ add-h c = omega (arith, frames-few (c .before .cost .result))
 
 fits-requires : tie.Need-fits-requires
 fits-requires c κs =
-    let p = c .before .before .before .before .before in
+    let p = c .before .before .before .before in
     (p .pre .0 .site .small, omega (arith, cost-few (p .args .words .now) (p .args .at + 4)), omega arith, omega (arith, frames-few (c .before .cost .result)))
 
 add-simple : tie.Need-add-simple
-add-simple c = omega (arith, here-inside _ _ _ _ _ _ (c .before .before .before .before .before .before .before .pre .0 .site))
+add-simple c = omega (arith, here-inside _ _ _ _ _ _ (c .before .before .before .before .before .before .pre .0 .site))
 
 simple-requires : tie.Need-simple-requires
 simple-requires c κs =
-    let p = c .before .before .before .before .before .before .before .before in
+    let p = c .before .before .before .before .before .before .before in
     first-simple (p .pre .0) (p .pre .1) (omega arith) (c .before .before .before .before .cost .ensures) (c .before .before .fits2 .ensures (c .before .if1 .taken) .0)
 
 enum-known-x : tie.Need-enum-known-x
@@ -45,13 +45,13 @@ append-requires c κs = search needs
 
 add-later : tie.Need-add-later
 add-later c =
-    let p = c .before .before .before .before .before .before .before .before .before .before .before .before .before .before .before .before in
+    let p = c .before .before .before .before .before .before .before .before .before .before .before .before .before .before .before in
     omega (arith, cost-few (p .args .words .now) (p .args .at + 4))
 
 later-requires : tie.Need-later-requires
 later-requires c κs =
-    let p = c .before .before .before .before .before .before .before .before .before .before .before .before .before .before .before .before in
-    (p .pre .0 .site .small, omega (arith, cost-few (p .args .words .now) (p .args .at + 4)), omega (arith, frames-few (c .before .before .before .before .before .before .before .before .before .before .before .before .cost .result)))
+    let p = c .before .before .before .before .before .before .before .before .before .before .before .before .before .before .before in
+    (p .pre .0 .site .small, omega (arith, cost-few (p .args .words .now) (p .args .at + 4)))
 
 enum-told : tie.Need-enum-told
 enum-told c = search needs
@@ -69,7 +69,7 @@ returns : tie.Need-returns
 unfolding Jumps
 returns c =
     let q = c .before .before .before .before .before .before .before .before .before .before in
-    let p = q .before .before .before .before .before .before .before in
+    let p = q .before .before .before .before .before .before in
     jump-one (p .pre .0) (p .pre .1) (q .before .before .before .cost .ensures) (c .before .before .before .before .before .before .before .before .simple .ensures) (c .before .before .before .before .before .before .x .given .1) (p .pre .2) (q .before .before .frames-of .ensures) (q .before .fits2 .ensures (q .if1 .taken)) (c .before .before .before .append .ensures) (c .later .ensures)
 
 same-length-2 : tie.Need-same-length-2

@@ -13,40 +13,40 @@ use Rattle.strides.proofs.call_two.Statement.{statement}
 use Rattle.strides.proofs.call_two.Tie as tie
 
 add-wide : tie.Need-add-wide
-add-wide c = omega (arith, here-inside _ _ _ _ _ _ (c .before .before .before .pre .0 .site))
+add-wide c = omega (arith, here-inside _ _ _ _ _ _ (c .before .before .pre .0 .site))
 
 mul-wide : tie.Need-mul-wide
-mul-wide c = omega (arith, here-inside _ _ _ _ _ _ (c .before .before .before .pre .0 .site))
+mul-wide c = omega (arith, here-inside _ _ _ _ _ _ (c .before .before .pre .0 .site))
 
 shared-slice-read-wide : tie.Need-shared-slice-read-wide
-shared-slice-read-wide c = omega (arith, here-inside _ _ _ _ _ _ (c .before .before .before .before .pre .0 .site))
+shared-slice-read-wide c = omega (arith, here-inside _ _ _ _ _ _ (c .before .before .before .pre .0 .site))
 
 wide-requires : tie.Need-wide-requires
 wide-requires c κs = search needs
 
 mul-two : tie.Need-mul-two
 mul-two c =
-    let p = c .before .before .before .before .before in
+    let p = c .before .before .before .before in
     let l : 1 < arityAt (p .args .words .now) (p .args .f) = omega arith in
     omega (arith, second-cost (p .pre .0) (p .pre .1) l (c .wide .ensures) .inside)
 
 add-two : tie.Need-add-two
 add-two c =
-    let p = c .before .before .before .before .before in
+    let p = c .before .before .before .before in
     let l : 1 < arityAt (p .args .words .now) (p .args .f) = omega arith in
     omega (arith, second-cost (p .pre .0) (p .pre .1) l (c .wide .ensures) .inside)
 
 add-cost : tie.Need-add-cost
-add-cost c = omega (arith, here-inside _ _ _ _ _ _ (c .before .before .before .before .before .pre .0 .site))
+add-cost c = omega (arith, here-inside _ _ _ _ _ _ (c .before .before .before .before .pre .0 .site))
 
 cost-requires : tie.Need-cost-requires
 cost-requires c κs =
-    let p = c .before .before .before .before .before in
+    let p = c .before .before .before .before in
     first-cost (p .pre .0) (p .pre .1) (omega arith)
 
 cost-requires-2 : tie.Need-cost-requires-2
 cost-requires-2 c κs =
-    let p = c .before .before .before .before .before .before in
+    let p = c .before .before .before .before .before in
     second-cost (p .pre .0) (p .pre .1) (omega arith) (c .before .wide .ensures)
 
 frames-of-requires : tie.Need-frames-of-requires
@@ -63,20 +63,20 @@ add-h c = omega (arith, frames-few (c .before .before .before .before .cost .res
 
 both-requires : tie.Need-both-requires
 both-requires c κs =
-    let p = c .before .before .before .before .before .before .before .before .before .before in
+    let p = c .before .before .before .before .before .before .before .before .before in
     omega (arith, cost-few (p .args .words .now) (p .args .at + 4), cost-few (p .args .words .now) (p .args .start + 4 * c .before .before .before .before .before .wide .result))
 
 fits-requires : tie.Need-fits-requires
 fits-requires c κs =
-    let p = c .before .before .before .before .before .before .before .before .before .before .before in
+    let p = c .before .before .before .before .before .before .before .before .before .before in
     (p .pre .0 .site .small, omega (arith, both-few (c .before .before .before .before .before .cost .result) (c .before .before .before .before .cost2 .result), cost-few (p .args .words .now) (p .args .at + 4), cost-few (p .args .words .now) (p .args .start + 4 * c .before .before .before .before .before .before .wide .result)), omega arith, omega (arith, frames-few (c .before .before .before .before .before .cost .result), frames-few (c .before .before .before .before .cost2 .result)))
 
 add-simple : tie.Need-add-simple
-add-simple c = omega (arith, here-inside _ _ _ _ _ _ (c .before .before .before .before .before .before .before .before .before .before .before .before .before .pre .0 .site))
+add-simple c = omega (arith, here-inside _ _ _ _ _ _ (c .before .before .before .before .before .before .before .before .before .before .before .before .pre .0 .site))
 
 simple-requires : tie.Need-simple-requires
 simple-requires c κs =
-    let p = c .before .before .before .before .before .before .before .before .before .before .before .before .before .before in
+    let p = c .before .before .before .before .before .before .before .before .before .before .before .before .before in
     first-simple (p .pre .0) (p .pre .1) (omega arith) (c .before .before .before .before .before .before .before .before .cost .ensures) (both-some _ (c .before .before .before .before .before .before .before .before .cost .result) (c .before .before .before .before .before .before .before .cost2 .result) (c .before .before .before .both .ensures) (c .before .before .fits2 .ensures (c .before .if1 .taken) .0) .0)
 
 enum-known-x : tie.Need-enum-known-x
@@ -85,35 +85,35 @@ enum-known-x c = search needs
 simple-requires-2 : tie.Need-simple-requires-2
 simple-requires-2 c κs =
     let q = c .before .before .before .before .before .before .before .before .before .before .before .before in
-    let p = q .before .before .before .before .before .before .before in
+    let p = q .before .before .before .before .before .before in
     second-simple (p .pre .0) (p .pre .1) (omega arith) (q .before .before .wide .ensures) (q .cost2 .ensures) (both-some _ (q .before .cost .result) (q .cost2 .result) (c .before .before .before .before .before .before .before .before .both .ensures) (c .before .before .before .before .before .before .before .fits2 .ensures (c .before .before .before .before .before .before .if1 .taken) .0) .1)
 
 enum-known-y : tie.Need-enum-known-y
 enum-known-y c = search needs
 
 append-requires : tie.Need-append-requires
-append-requires c κs = (omega arith, c .before .before .before .before .before .before .before .before .before .before .before .before .before .before .before .before .before .before .before .before .before .before .before .before .pre .0 .site .sixteen)
+append-requires c κs = (omega arith, c .before .before .before .before .before .before .before .before .before .before .before .before .before .before .before .before .before .before .before .before .before .before .before .pre .0 .site .sixteen)
 
 append-requires-2 : tie.Need-append-requires-2
-append-requires-2 c κs = (omega arith, rw (c .before .before .before .append .ensures) (simp length-set (c .before .before .before .before .before .before .before .before .before .before .before .before .before .before .before .before .before .before .before .before .before .before .before .before .before .before .before .before .pre .0 .site .sixteen)))
+append-requires-2 c κs = (omega arith, rw (c .before .before .before .append .ensures) (simp length-set (c .before .before .before .before .before .before .before .before .before .before .before .before .before .before .before .before .before .before .before .before .before .before .before .before .before .before .before .pre .0 .site .sixteen)))
 
 add-later : tie.Need-add-later
 add-later c =
     let q = c .before .before .before .before .before .before .before .before .before .before .before .before .before .before .before .before .before .before .before .before .before .before .before .before in
-    let p = q .before .before .before .before .before .before .before in
+    let p = q .before .before .before .before .before .before in
     omega (arith, q .before .cost .ensures, q .cost2 .ensures, cost-few (p .args .words .now) (p .args .at + 4), cost-few (p .args .words .now) (p .args .start + 4 * q .before .before .wide .result))
 
 add-later-2 : tie.Need-add-later-2
 add-later-2 c =
     let q = c .before .before .before .before .before .before .before .before .before .before .before .before .before .before .before .before .before .before .before .before .before .before .before .before in
-    let p = q .before .before .before .before .before .before .before in
+    let p = q .before .before .before .before .before .before in
     omega (arith, q .before .cost .ensures, q .cost2 .ensures, cost-few (p .args .words .now) (p .args .at + 4), cost-few (p .args .words .now) (p .args .start + 4 * q .before .before .wide .result))
 
 later-requires : tie.Need-later-requires
 later-requires c κs =
     let q = c .before .before .before .before .before .before .before .before .before .before .before .before .before .before .before .before .before .before .before .before .before in
-    let p = q .before .before .before .before .before .before .before .before .before .before in
-    (p .pre .0 .site .small, omega (arith, q .before .before .before .before .cost .ensures, q .before .before .before .cost2 .ensures, cost-few (p .args .words .now) (p .args .at + 4), cost-few (p .args .words .now) (p .args .start + 4 * q .before .before .before .before .before .wide .result)), omega (arith, q .before .before .frames-of .ensures, q .before .frames-of2 .ensures, q .higher .ensures, frames-few (q .before .before .before .before .cost .result), frames-few (q .before .before .before .cost2 .result)))
+    let p = q .before .before .before .before .before .before .before .before .before in
+    (p .pre .0 .site .small, omega (arith, q .before .before .before .before .cost .ensures, q .before .before .before .cost2 .ensures, cost-few (p .args .words .now) (p .args .at + 4), cost-few (p .args .words .now) (p .args .start + 4 * q .before .before .before .before .before .wide .result)))
 
 enum-told : tie.Need-enum-told
 enum-told c = search needs
@@ -138,7 +138,7 @@ unfolding Jumps
 returns c =
     let q = c .before .before .before .before .before .before .before .before .before .before in
     let r = q .before .before .before .before .before .before .before .before .before in
-    let p = r .before .before .before .before .before .before .before .before .before .before .before .before .before in
+    let p = r .before .before .before .before .before .before .before .before .before .before .before .before in
     jump-two (p .pre .0) (p .pre .1) (r .before .before .before .before .before .before .before .cost .ensures) (q .before .before .before .before .before .before .before .simple .ensures) (q .before .before .before .before .before .x .given .1) (r .before .before .before .before .before .before .before .before .wide .ensures) (r .before .before .before .before .before .before .cost2 .ensures) (q .before .before .simple2 .ensures) (q .y .given .1) (p .pre .2) (r .before .before .before .before .before .frames-of .ensures) (r .before .before .before .before .frames-of2 .ensures) (r .before .before .before .higher .ensures) (r .before .before .both .ensures) (r .before .fits2 .ensures (r .if1 .taken)) (c .before .before .before .before .before .before .before .append .ensures) (c .before .before .before .append2 .ensures) (c .later .ensures) (omega arith)
 
 same-length-2 : tie.Need-same-length-2

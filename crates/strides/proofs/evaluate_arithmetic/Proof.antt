@@ -6,7 +6,7 @@ use Rattle.strides.proofs.evaluate_arithmetic.Statement.{statement}
 use Rattle.strides.proofs.evaluate_arithmetic.Tie as tie
 
 pair-requires : tie.Need-pair-requires
-pair-requires c κs = let p = c .before .before .before .before in (tagged (p .args .words .now) (p .args .ws .now) (p .args .locals .now) (p .args .plan) (p .args .g) (p .args .seat) (p .args .start) (p .args .at) 2 (p .pre), p .pre .calm .starts .ready .limits .frames)
+pair-requires c κs = let p = c .before .before .before .before in (tagged (p .args .words .now) (p .args .ws .now) (p .args .locals .now) (p .args .plan) (p .args .g) (p .args .seat) (p .args .start) (p .args .at) 2 (p .pre), p .pre .calm .starts .ready .limits .frames, p .pre .calm .starts .ready .bounded .depth)
 
 enum-known-step : tie.Need-enum-known-step
 enum-known-step c = search needs

@@ -54,7 +54,7 @@ add-later-2 c = search needs
 later-requires : tie.Need-later-requires
 later-requires c κs =
     let s = c .before .before .before .before .before .before .before .before .before .before .before .before .before .before .before .before .before .before in
-    (s .pre .0 .site .small, omega (arith, s .pre .1 .few), omega (arith, one-frame _ (s .args .k) (c .before .before .before .before .before .before .before .before .before .before .before .before .before .before .frames-of .ensures)))
+    (s .pre .0 .site .small, omega (arith, s .pre .1 .few))
 
 none-requires-3 : tie.Need-none-requires-3
 none-requires-3 c κs = search needs

@@ -28,7 +28,7 @@ paired-requires : tie.Need-paired-requires
 paired-requires c κs =
     let p = c .before .before .before .before .before .before .before .before .before .before .pre in
     let led = first-led (p .0 .site) (pair-first (p .0)) _ (c .before .before .before .before .before .before .cost .ensures) (c .before .before .before .before .before .if1 .taken) _ (c .before .before .before .before .simple .ensures) _ (c .before .before .x .given .1) in
-    (p .0, led, p .1)
+    (p .0, led, p .1, p .2)
 
 enum-told : tie.Need-enum-told
 enum-told c = search needs

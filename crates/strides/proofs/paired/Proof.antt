@@ -32,14 +32,11 @@ whole-requires c κs = search needs
 half-requires : tie.Need-half-requires
 half-requires c κs = search needs
 
-same-length : tie.Need-same-length
-same-length c = search needs
-
 returns : tie.Need-returns
 returns c = whole-paired _ _ _ _ _ _ (c .whole .ensures)
 
-same-length-2 : tie.Need-same-length-2
-same-length-2 c = search needs
+same-length : tie.Need-same-length
+same-length c = search needs
 
 returns-2 : tie.Need-returns-2
 returns-2 c = search needs
@@ -57,7 +54,6 @@ paired-spec =
     cost-requires
     whole-requires
     half-requires
-    same-length
     returns
-    same-length-2
+    same-length
     returns-2)

@@ -79,7 +79,7 @@ add-later : tie.Need-add-later
 add-later c = let p = c .before .before .before .before .before .before .before .before .before .before .before .before .before .before .before .before .before .before .before .before .before in let few = right-few (p .args .top) (p .pre .0) (p .pre .3) (c .before .before .before .before .before .before .before .before .before .before .before .before .before .before .before .before .before .seat-of .ensures) (c .before .before .before .before .before .before .before .before .before .before .before .before .before .wide .ensures) (c .before .before .before .before .before .before .before .before .before .before .before .before .cost .ensures) in omega arith
 
 later-requires : tie.Need-later-requires
-later-requires c κs = let p = c .before .before .before .before .before .before .before .before .before .before .before .before .before .before .before .before .before .before .before .before .before in let few = right-few (p .args .top) (p .pre .0) (p .pre .3) (c .before .before .before .before .before .before .before .before .before .before .before .before .before .before .before .before .before .seat-of .ensures) (c .before .before .before .before .before .before .before .before .before .before .before .before .before .wide .ensures) (c .before .before .before .before .before .before .before .before .before .before .before .before .cost .ensures) in (p .pre .1, omega arith, omega (arith, c .before .before .before .before .before .before .before .before .before .before .before .frames-of .ensures))
+later-requires c κs = let p = c .before .before .before .before .before .before .before .before .before .before .before .before .before .before .before .before .before .before .before .before .before in let few = right-few (p .args .top) (p .pre .0) (p .pre .3) (c .before .before .before .before .before .before .before .before .before .before .before .before .before .before .before .before .before .seat-of .ensures) (c .before .before .before .before .before .before .before .before .before .before .before .before .before .wide .ensures) (c .before .before .before .before .before .before .before .before .before .before .before .before .cost .ensures) in (p .pre .1, omega arith)
 
 enum-told : tie.Need-enum-told
 enum-told c = search needs
