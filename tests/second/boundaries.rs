@@ -1,10 +1,11 @@
 //! Runs the jobs of `small` with every fuel, every number of frames and every N up to the end of any form, and compares them with the
 //! proved machines; counts which form was met at which boundary, and fails where one was not.
+use crate::depths::DEPTH;
 use crate::forms::{longest, Counts, Forms};
 use crate::jobs::{Dice, Input};
 use crate::proved::Lent;
 use crate::second::{self, Answer, Job, Limits, Machine, ALL};
-use crate::small::{failures, wanted, Random, Writer, ARGS};
+use crate::small::{failures, wanted, Random, Small, Writer, ARGS};
 
 /// More transitions than any run of such a job makes, and an N that none comes to.
 const PLENTY: u64 = 10_000;
@@ -75,7 +76,19 @@ impl Runs {
         }
     }
 
-    fn job(&mut self, table: Vec<u32>, args: &[u64], periods: &[u64], counts: &mut Counts) {
+    /// A job as it is, and after a part that occupies as many frames as it needs: then none of its frames is new.
+    fn job(&mut self, small: Small, args: &[u64], periods: &[u64], counts: &mut Counts) {
+        let plain = second::read(&small.table(0)).expect("an accepted table");
+        let limits = Limits { fuel: PLENTY, period: PLENTY, tau: 1, frames: 4_096 };
+        let answer = second::run_accepted(Machine::Sequential, &plain, args, limits, None);
+        let depth = answer.words()[DEPTH];
+        self.after(&small, 0, args, periods, counts);
+        let later: Vec<u64> = periods.iter().map(|n| (n + Small::before(depth)).min(PLENTY)).collect();
+        self.after(&small, depth, args, &later, counts);
+    }
+
+    fn after(&mut self, small: &Small, frames: u64, args: &[u64], periods: &[u64], counts: &mut Counts) {
+        let table = small.table(frames);
         let job = second::read(&table).expect("an accepted table");
         let tau = 1 + self.dice.below(50);
         let input = Input { table, args: args.to_vec(), fuel: PLENTY, period: PLENTY, tau, workspace: 32 };
@@ -110,10 +123,10 @@ impl Runs {
 
     fn random(&mut self, count: u64, counts: &mut Counts) {
         for _ in 0..count {
-            let table = Random::job(&mut self.dice);
+            let small = Random::job(&mut self.dice);
             let args = ARGS.map(|_| self.dice.below(6));
             let periods = [1, 2, 3].map(|_| 1 + self.dice.below(self.last_period()));
-            self.job(table, &args, &periods, counts);
+            self.job(small, &args, &periods, counts);
         }
     }
 

@@ -170,7 +170,7 @@ fn failure(node: &Node, left: Option<u64>, operands: &[&Node], locals: &[u64]) -
     }
 }
 
-/// What a form meets that decides alone whether it can be made at once: all else suffices.
+/// What a form meets that decides alone whether it can be made at once: all else suffices, and its frames were occupied before.
 #[derive(Clone, Copy, PartialEq, Eq, Hash, Debug)]
 enum Boundary {
     /// Fuel for so many transitions fewer; for just these; for one more.
@@ -180,12 +180,15 @@ enum Boundary {
     /// So many frames too few; just these.
     FramesShort(usize),
     FramesExact,
+    /// Of the frames so many were never occupied before; just these were.
+    FramesNew(usize),
+    FramesReached,
     /// A promotion comes due after so many of its transitions; after its last; one transition later; within, with nothing to promote.
     DueWithin(u64),
     DueAtEnd,
     DueLater,
     NoneToPromote,
-    /// Fuel, frames and credits are all exact.
+    /// Fuel, frames and credits are all exact; the frames were occupied before.
     AllExact,
     /// An operation fails, with a stop's number: fuel for all before it; for it too; for the whole form.
     FailsShort(usize, u64),
@@ -194,8 +197,8 @@ enum Boundary {
 }
 use Boundary::*;
 
-const COLUMNS: [&str; 13] = [
-    "fuel-", "fuel=", "fuel+", "frames-", "frames=", "due<", "due=", "due+", "none", "all=", "fails-", "fails=", "fails+",
+const COLUMNS: [&str; 15] = [
+    "fuel-", "fuel=", "fuel+", "frames-", "frames=", "new", "reached", "due<", "due=", "due+", "none", "all=", "fails-", "fails=", "fails+",
 ];
 
 impl Boundary {
@@ -206,14 +209,16 @@ impl Boundary {
             FuelOver => 2,
             FramesShort(_) => 3,
             FramesExact => 4,
-            DueWithin(_) => 5,
-            DueAtEnd => 6,
-            DueLater => 7,
-            NoneToPromote => 8,
-            AllExact => 9,
-            FailsShort(..) => 10,
-            FailsAt(..) => 11,
-            Fails(..) => 12,
+            FramesNew(_) => 5,
+            FramesReached => 6,
+            DueWithin(_) => 7,
+            DueAtEnd => 8,
+            DueLater => 9,
+            NoneToPromote => 10,
+            AllExact => 11,
+            FailsShort(..) => 12,
+            FailsAt(..) => 13,
+            Fails(..) => 14,
         }
     }
 }
@@ -222,9 +227,9 @@ impl Form {
     /// The boundaries at which a machine has to be met.
     fn boundaries(&self, m: Machine) -> Vec<Boundary> {
         let k = self.transitions();
-        let mut all = vec![FuelExact, FuelOver, FramesExact];
+        let mut all = vec![FuelExact, FuelOver, FramesExact, FramesReached];
         all.extend((1..=k).map(FuelShort));
-        all.extend((1..=self.frames()).map(FramesShort));
+        all.extend((1..=self.frames()).flat_map(|n| [FramesShort(n), FramesNew(n)]));
         if m == Machine::Heartbeat {
             all.extend([DueAtEnd, DueLater, AllExact]);
             all.extend((1..k).map(DueWithin));
@@ -242,27 +247,30 @@ impl Form {
         let (k, h) = (self.transitions(), self.frames());
         let left = room.beat.filter(|b| b.promotable).map_or(i64::MAX, |b| b.left);
         let (fuel, frames, quiet) = (room.fuel >= k, room.frames >= h, left >= k as i64);
+        let reached = room.reached >= h;
         let mut all = Vec::new();
         if let Some((operation, number)) = failure {
             let before = self.before_result(operation);
-            if frames && quiet {
+            if reached && quiet {
                 all.extend((room.fuel == before).then_some(FailsShort(operation, number)));
                 all.extend((room.fuel == before + 1).then_some(FailsAt(operation, number)));
                 all.extend(fuel.then_some(Fails(operation, number)));
             }
             return all;
         }
-        if frames && quiet {
+        if reached && quiet {
             all.extend(of_fuel(room.fuel, k));
         }
         if fuel && quiet {
             all.extend((room.frames == h).then_some(FramesExact));
             all.extend((!frames).then(|| FramesShort(h - room.frames)));
+            all.extend((frames && !reached).then(|| FramesNew(h - room.reached)));
+            all.extend((room.reached == h).then_some(FramesReached));
         }
-        if let (true, true, Some(beat)) = (fuel, frames, room.beat) {
+        if let (true, true, Some(beat)) = (fuel, reached, room.beat) {
             all.extend(if beat.promotable { of_beat(left as u64, k) } else { (beat.left < k as i64).then_some(NoneToPromote) });
         }
-        all.extend((room.fuel == k && room.frames == h && left == k as i64).then_some(AllExact));
+        all.extend((room.fuel == k && room.frames == h && reached && left == k as i64).then_some(AllExact));
         all
     }
 }

@@ -265,11 +265,12 @@ pub struct Beat {
     pub promotable: bool,
 }
 
-/// What a run has left before a transition: fuel and frames; and its beat, in the heartbeat.
+/// What a run has left before a transition: fuel and frames, and of these so many as were occupied before; and its beat, in the heartbeat.
 #[derive(Debug, Clone, Copy)]
 pub struct Room {
     pub fuel: u64,
     pub frames: usize,
+    pub reached: usize,
     pub beat: Option<Beat>,
 }
 
@@ -337,7 +338,7 @@ impl<'j> World<'j> {
     fn show(&mut self, at: &Node, left: Option<u64>, locals: &Locals) {
         if let Some(watch) = &mut self.watch {
             let (fuel, frames) = (self.fuel.saturating_sub(self.made), self.frames.saturating_sub(self.occupied));
-            watch.see(at, left, locals, Room { fuel, frames, beat: self.beat });
+            watch.see(at, left, locals, Room { fuel, frames, reached: self.deepest - self.occupied, beat: self.beat });
         }
     }
     fn need_fuel(&self, at: &Node) -> Result<(), Stop> {

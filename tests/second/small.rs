@@ -4,7 +4,8 @@ use crate::forms::{lists, Shape, SHAPES, STOPS};
 use crate::jobs::{assemble, Dice};
 
 /// A tree of nodes before it has positions: tag, the words a and b of a node without second child, children.
-struct Tree(u32, [u32; 2], Vec<Tree>);
+#[derive(Clone)]
+pub struct Tree(u32, [u32; 2], Vec<Tree>);
 
 impl Tree {
     fn write(&self, body: &mut Vec<[u32; 4]>) {
@@ -148,20 +149,37 @@ impl Writer {
         ARGS.len() + if self.around == 3 { 2 } else { 0 }
     }
 
-    pub fn job(&self, node: &Wanted) -> Vec<u32> {
+    pub fn job(&self, node: &Wanted) -> Small {
         let told = [1, 2, 3].map(|arity| local(self.around % arity));
-        table(self.surrounded(self.node(node)), told, ARGS.map(constant))
+        Small { entry: self.surrounded(self.node(node)), bodies: told, without_arguments: ARGS.map(constant) }
     }
 }
 
-fn table(entry: Tree, bodies: [Tree; 3], without_arguments: [Tree; 3]) -> Vec<u32> {
-    let words = |t: Tree| {
-        let mut body = Vec::new();
-        t.write(&mut body);
-        body
-    };
-    let all = [entry].into_iter().chain(bodies).chain(without_arguments);
-    assemble(&ARITIES, &all.map(words).collect::<Vec<_>>())
+/// A job: the entry and the functions that it calls.
+pub struct Small {
+    entry: Tree,
+    bodies: [Tree; 3],
+    without_arguments: [Tree; 3],
+}
+
+impl Small {
+    /// Its table, where the entry comes after a part that occupies so many frames at once, and frees them.
+    pub fn table(&self, frames: u64) -> Vec<u32> {
+        let deep = (1..frames).fold(constant(1), |inner, _| choose(inner, constant(1), constant(0)));
+        let entry = if frames == 0 { self.entry.clone() } else { choose(deep, self.entry.clone(), constant(0)) };
+        let words = |t: &Tree| {
+            let mut body = Vec::new();
+            t.write(&mut body);
+            body
+        };
+        let all = [&entry].into_iter().chain(&self.bodies).chain(&self.without_arguments);
+        assemble(&ARITIES, &all.map(words).collect::<Vec<_>>())
+    }
+
+    /// The transitions of that part.
+    pub fn before(frames: u64) -> u64 {
+        3 * frames
+    }
 }
 
 const MOST_LOCALS: usize = 16;
@@ -208,10 +226,10 @@ impl Random<'_> {
     fn entry(&mut self, bound: usize, more: u64) -> Tree {
         if more == 0 { self.node(bound, 2) } else { bind(self.leaf(bound), self.entry(bound + 1, more - 1)) }
     }
-    pub fn job(dice: &mut Dice) -> Vec<u32> {
+    pub fn job(dice: &mut Dice) -> Small {
         let more = if dice.one_in(8) { MOST_LOCALS as u64 - ARGS.len() as u64 - dice.below(3) } else { 0 };
         let entry = Random { dice: &mut *dice, calls: true }.entry(ARGS.len(), more);
         let mut callee = |arity| Random { dice: &mut *dice, calls: false }.child(arity, 1);
-        table(entry, [1, 2, 3].map(&mut callee), [0; 3].map(&mut callee))
+        Small { entry, bodies: [1, 2, 3].map(&mut callee), without_arguments: [0; 3].map(&mut callee) }
     }
 }
