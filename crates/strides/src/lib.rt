@@ -2,8 +2,8 @@
 //
 // A simple operand is a constant, a local, or an arithmetic of two of these. Where the children that a node evaluates are simple, or the right
 // operand that an arithmetic frame awaits, the machine opens frames and closes them again: its state afterwards is known at once, and no frame
-// is written for it. That is a stride. It is made where there is fuel and there are frames for all of it and no promotion comes due within;
-// else, and where an operation fails, one step is made, so that every stop stays where it is.
+// is written for it. That is a stride. It is made where there is fuel for all of it, its frames were occupied before, and no promotion comes due
+// within; else, and where an operation fails, one step is made, so that every stop stays where it is and only a step raises the depth.
 
 use arithmetic::Computed;
 use compact::Compact;
