@@ -165,7 +165,6 @@ pub fn later(g: Compact, control: Control, depth: usize, k: u64) -> Compact
     ensures { λ r. ⌜ r ≡ laterOf g control depth k ⌝ }
 {
     let before = g.before;
-    let deepest = g.deepest;
     let transitions = g.transitions + k;
     Compact {
         control,
@@ -176,7 +175,7 @@ pub fn later(g: Compact, control: Control, depth: usize, k: u64) -> Compact
         before,
         limit: g.limit,
         forks: g.forks,
-        deepest,
+        deepest: g.deepest,
     }
 }
 
