@@ -1,7 +1,7 @@
 -- The depth of every answer: within the frames, all of them at a stop 21, and just as many as a value needs.
 use Prim.Native.Nat.{ℕ, zero, suc, _*_, _≤_}
 use mathlib.Core.Path.{_≡_, refl, ap, _∙_}
-use mathlib.Core.Bool.{Bool, true, false, cond}
+use mathlib.Core.Bool.{Bool, true, false}
 use mathlib.Core.List.{List, [], _∷_, _++_}
 use native.Mathlib.Omega.{arith}
 use lib.Dec.{ltb}
@@ -16,7 +16,7 @@ use Rattle.arithmetic.specs.declared.Computed.the-variants.{Is, Fails}
 use Rattle.arithmetic.specs.Operate.{computed}
 use Rattle.schedule.specs.Graph.{Graph}
 use Rattle.schedule.specs.Algebra.{graphs}
-use Rattle.schedule.specs.FrameMachine.{Place, stuck, fail}
+use Rattle.schedule.specs.FrameMachine.{stuck, fail}
 use Rattle.schedule.specs.Machine as machine
 use Rattle.schedule.specs.Machine.{value, stop, Result, ended, ongoing, Schedule}
 use Rattle.schedule.specs.Runs.{outcome}
@@ -25,7 +25,6 @@ use Rattle.schedule.proofs.Finish.{finishes}
 use Rattle.schedule.proofs.Depth.{depth-within, full-at-21, frames-enough}
 use Rattle.language.specs.declared.Counts.{Counts}
 use Rattle.language.specs.declared.Stop.{Stop}
-use Rattle.language.specs.declared.Answer.{Answer}
 use Rattle.language.specs.declared.Answer.the-variants.{Value, Stopped}
 use Rattle.language.specs.Language as language
 use Rattle.language.specs.Language.{Code, Frame, left-operand, right-operand, condition, binding, argument, result, operated, call, next, gathered, arrive}

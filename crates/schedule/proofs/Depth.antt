@@ -1,5 +1,5 @@
 -- The depth of a run: within the frames, all of them at a stop 21, and all that the run needs.
-use Prim.Native.Nat.{ℕ, zero, suc, _+_, _≤_}
+use Prim.Native.Nat.{ℕ, suc, _≤_}
 use mathlib.Core.Path.{_≡_, refl, sym, _∙_}
 use mathlib.Core.Bool.{Bool, true, false}
 use mathlib.Core.List.{[]}
@@ -10,7 +10,7 @@ use Rattle.schedule.specs.FrameMachine.{Place, return, FrameMachine}
 use Rattle.schedule.specs.Machine.{promotable, Ending, value, stop, RunCounts, State, state, ended, Schedule, promoted-at-birth, promotion-due, move, step, start}
 use Rattle.schedule.specs.Runs.{and-then, run, moves, outcome}
 use Rattle.schedule.specs.Depth.{DepthWithin, NoOwn21, FullAt21, FramesEnough}
-use Rattle.schedule.proofs.Moves.{due-promotable, Move, goes-on, opens, closes, keeps-frame, forks, turns, joins, forks-freely, turns-freely, joins-freely, Halt, no-fuel, is-stuck, Stuck, at-code, at-frame, no-frame, no-fork-frame, Step, moves-on, promotes, quiet-is, step-is, Way, to-value, to-halt, via, way}
+use Rattle.schedule.proofs.Moves.{due-promotable, Move, goes-on, opens, closes, keeps-frame, forks, turns, joins, forks-freely, turns-freely, joins-freely, Halt, no-fuel, is-stuck, at-code, at-frame, no-frame, no-fork-frame, Step, moves-on, promotes, quiet-is, step-is, Way, to-value, to-halt, via, way}
 use Rattle.schedule.proofs.Runs.{same-end}
 use Rattle.schedule.proofs.Stacks.{length-promote}
 use Rattle.schedule.proofs.Finish.{finishes}
