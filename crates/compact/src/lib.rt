@@ -18,8 +18,9 @@ ghost use Rattle.compact.specs.Compact.{full, stepOf, limitOf, Paced, Pa
 // The registers of a run by one counter. Credits and span are told by the transitions since the running machine's start.
 pub struct Compact {
     pub control: Control,
-    // The frames that are occupied.
+    // The frames that are occupied, and the most that were at once.
     pub depth: usize,
+    pub deepest: usize,
     // The oldest plain fork that awaits its left, or 4096.
     pub oldest: usize,
     pub transitions: u64,
@@ -29,8 +30,6 @@ pub struct Compact {
     // Up to so many transitions there is fuel, and no promotion is due.
     pub limit: u64,
     pub forks: u64,
-    // The most frames that were occupied at once.
-    pub deepest: usize,
 }
 
 // What a stride comes to.
