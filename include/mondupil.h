@@ -76,7 +76,8 @@ enum {
  *
  * A stop's number is 20 to 24, its function and node are in the table, and its transitions are at most the fuel, and exactly the fuel for
  * 20. The depth of a value or a stop is at most the frames of the workspace, and exactly these for 21. Beside a value, a workspace of so
- * many frames as its depth (and at least 1) gives the same answer, as does any larger one; a smaller one does not.
+ * many frames as its depth (and at least 1) gives the same answer, as does any larger one of up to 4,096; a smaller one does not. That is
+ * stated of the answers, in crates/language/specs/Depth.antt.
  *
  * Three calls, one of each machine, with the same table, arguments, fuel, period, tau and workspace length, in any order and whatever the
  * workspaces hold: if the sequential machine's answer is a value, then the two others' are the same value, and
