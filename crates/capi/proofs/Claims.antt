@@ -1,4 +1,4 @@
--- Demand 3, the depth and the listed stops, from the answers to the words that calls write.
+-- Demand 3, the depth, the stops that agree and the listed stops, from the answers to the words that calls write.
 -- Assumes nothing.
 use Prim.Native.Nat.{ℕ, _≤_, _<_}
 use mathlib.Core.Path.{_≡_, refl, sym, ap, _∙_}
@@ -13,11 +13,12 @@ use Rattle.language.specs.declared.Stop.{Stop}
 use Rattle.language.specs.declared.Answer.{Answer}
 use Rattle.language.specs.declared.Answer.the-variants.{Value, Stopped, Refused}
 use Rattle.language.specs.Answers.{answerOf, sequentialOf, parallelOf, heartbeatOf, deepestOf}
-use Rattle.language.proofs.Claim.{claim, same-depth}
+use Rattle.language.specs.Claim.{SameStop}
+use Rattle.language.proofs.Claim.{claim, same-depth, stops-agree}
 use Rattle.language.proofs.Stops.{stops-listed}
 use Rattle.capi.specs.Words.{answerWords, written}
 use Rattle.capi.specs.Calls.{answerBy}
-use Rattle.capi.specs.Claims.{CallWrote, ThreeCalls, DepthOfCalls, StopOfCall}
+use Rattle.capi.specs.Claims.{CallWrote, ThreeCalls, DepthOfCalls, SameStopIn, StopsOfCalls, StopOfCall}
 use Rattle.capi.proofs.Serving.{serving}
 use Rattle.capi.proofs.Writing.{length-written, word-written}
 
@@ -98,6 +99,30 @@ depth-of-calls w arguments fuel N τ workspace s p h cs cp ch ls lp lh zero-kind
     let dp = tells cp .last lp ∙ shown (parallelOf w arguments fuel N τ workspace) ∙ same .0 in
     let dh = tells ch .last lh ∙ shown (heartbeatOf w arguments fuel N τ workspace) ∙ same .1 in
     (dp ∙ sym ds, dh ∙ sym ds)
+
+-- the words of an answer that is the same stop
+same-words : (s out : List ℕ) (stop : Stop) (a : Answer) → Front s (Stopped stop) → Front out a → SameStop stop a → SameStopIn s out
+unfolding answerWords
+same-words s out stop a f g same =
+    let k = rw (same .is) at g in
+    record {
+      kind = k .at 0 (omega arith);
+      number = omega (arith, f .at 1 (omega arith), k .at 1 (omega arith), same .number);
+      function = omega (arith, f .at 2 (omega arith), k .at 2 (omega arith), same .function);
+      node = omega (arith, f .at 3 (omega arith), k .at 3 (omega arith), same .node);
+      never-more = omega (arith, f .at 4 (omega arith), k .at 4 (omega arith), same .never-more);
+      depth = λ ls lo. omega (arith, f .last ls, k .last lo, same .depth);
+    }
+
+pub stops-of-calls : StopsOfCalls
+unfolding answerWords answerBy
+stops-of-calls w arguments fuel N τ workspace s p h cs cp ch one-kind least most =
+    let fs = tells cs in
+    let a = stopped (sequentialOf w arguments fuel N τ workspace) (sym (fs .at 0 (omega arith)) ∙ one-kind) in
+    let ws = rw (a .1) at fs in
+    let told = ws .at 1 (omega arith) in
+    let both = stops-agree w arguments fuel N τ workspace .at-a-stop (a .0) (a .1) (omega (arith, told, least)) (omega (arith, told, most)) in
+    (same-words s p (a .0) _ ws (tells cp) (both .0), same-words s h (a .0) _ ws (tells ch) (both .1))
 
 -- the schedule of a machine by its number
 scheduled : ℕ → ℕ → Schedule

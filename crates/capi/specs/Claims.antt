@@ -1,5 +1,5 @@
--- What holds of calls from another language, told by the words that they write: demand 3 of three calls, their depth, and what every stop tells. All are
--- proved in proofs/Claims.antt from what `Called` says of a call.
+-- What holds of calls from another language, told by the words that they write: demand 3 of three calls, their depth, that their stops agree, and what
+-- every stop tells. All are proved in proofs/Claims.antt from what `Called` says of a call.
 use Prim.Native.Nat.{ℕ, _+_, _*_, _≤_, _<_}
 use mathlib.Core.Path.{_≡_}
 use mathlib.Core.List.{List}
@@ -76,6 +76,26 @@ DepthOfCalls = (w arguments : List ℕ) (fuel N τ workspace : ℕ) (s p h : Lis
     → 9 ≤ length h
     → kindIn s ≡ 0
     → (deepestIn p ≡ deepestIn s) × (deepestIn h ≡ deepestIn s)
+
+-- the stop of an answer's words beside the sequential machine's, s (02, P12); the depth where both buffers have nine words
+pub record SameStopIn (s out : List ℕ) : Type 0 where
+  pub kind : kindIn out ≡ 1
+  pub number : toldIn out ≡ toldIn s
+  pub function : functionIn out ≡ functionIn s
+  pub node : nodeIn out ≡ nodeIn s
+  pub never-more : transitionsIn out ≤ transitionsIn s
+  pub depth : 9 ≤ length s → 9 ≤ length out → deepestIn out ≡ deepestIn s
+
+-- THEOREM (`stops-of-calls`): if the sequential machine's answer is a stop 21 to 24, both others are that stop.
+abbrev pub StopsOfCalls : Type 0
+StopsOfCalls = (w arguments : List ℕ) (fuel N τ workspace : ℕ) (s p h : List ℕ)
+    → CallWrote 0 w arguments fuel N τ workspace s
+    → CallWrote 1 w arguments fuel N τ workspace p
+    → CallWrote 2 w arguments fuel N τ workspace h
+    → kindIn s ≡ 1
+    → 21 ≤ toldIn s
+    → toldIn s ≤ 24
+    → SameStopIn s p × SameStopIn s h
 
 -- THEOREM (`stop-of-call`): a stop's number is 20 to 24, its function and node are in the table, and its transitions are at most the fuel, and exactly the
 -- fuel for 20.

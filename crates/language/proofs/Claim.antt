@@ -15,12 +15,13 @@ use Rattle.schedule.specs.Runs.{outcome}
 use Rattle.schedule.proofs.Demand.{demand-3}
 use Rattle.schedule.proofs.Lockstep.{in-lockstep}
 use Rattle.language.specs.declared.Counts.{Counts}
+use Rattle.language.specs.declared.Stop.{Stop}
 use Rattle.language.specs.declared.Answer.{Answer}
 use Rattle.language.specs.declared.Answer.the-variants.{Value, Stopped, Refused}
 use Rattle.language.specs.Language.{language}
 use Rattle.language.specs.Checks.{framesIn, checkedOf}
 use Rattle.language.specs.Answers.{entryCode, countsOf, toldBy, afterCheck, runOf, answerOf, sequentialOf, parallelOf, heartbeatOf, deepestOf}
-use Rattle.language.specs.Claim.{FourStatements, DemandThree, ForEveryInput, SameDepth, DepthForEveryInput}
+use Rattle.language.specs.Claim.{FourStatements, DemandThree, ForEveryInput, SameDepth, DepthForEveryInput, SameStop, StopsAgree, StopsForEveryInput}
 use Rattle.language.proofs.Admission.{checked-iff}
 
 -- the counts of an answer that has a value
@@ -118,3 +119,57 @@ same-depth w arguments fuel N τ workspace = record {
 pub same-depth-of : (w arguments : List ℕ) (fuel N τ workspace : ℕ) (s p h : Answer) → s ≡ sequentialOf w arguments fuel N τ workspace
     → p ≡ parallelOf w arguments fuel N τ workspace → h ≡ heartbeatOf w arguments fuel N τ workspace → SameDepth s p h
 same-depth-of w arguments fuel N τ workspace s p h d e f = rw (d, e, f) (same-depth w arguments fuel N τ workspace)
+
+-- THE STOPS, but for 20: that of the sequential run, of any machine's, by lockstep
+module _ (m : Schedule) (w arguments : List ℕ) (fuel τ workspace : ℕ) (s : Stop) (least : 21 ≤ s .number) where
+  stop-of-run : (o : Result graphs (language w)) → outcome graphs (language w) fuel (framesIn workspace) sequential (entryCode arguments) ≡ o
+      → toldBy τ o ≡ Stopped s → SameStop s (runOf m w arguments fuel τ workspace)
+  unfolding toldBy runOf
+  stop-of-run (ended (value u) g t) e q = let no : _≡_ {A = ℕ} 0 1 = cc in absurd (omega arith)
+  stop-of-run (ended (stop i p) g t) e q =
+      let number : i ≡ s .number = cc in
+      let function : p .function ≡ s .function = cc in
+      let node : p .node ≡ s .node = cc in
+      let transitions : t .transitions ≡ s .transitions = cc in
+      let deepest : t .deepest ≡ s .deepest = cc in
+      let never : (other : Place) → stop i p ≡ stop 20 other → ⊥ = λ other z. let is : i ≡ 20 = cc in omega (arith, least) in
+      let l = in-lockstep graphs (language w) fuel (framesIn workspace) m (entryCode arguments) (stop i p) g t never e in
+      record {
+        other = record {
+          number = i;
+          function = p .function;
+          node = p .node;
+          transitions = l .run .counts .transitions;
+          deepest = l .run .counts .deepest;
+        };
+        is = ap (toldBy τ) (l .run .is);
+        number = omega (arith, number);
+        function = omega (arith, function);
+        node = omega (arith, node);
+        never-more = omega (arith, l .fewer, transitions);
+        depth = omega (arith, l .depth, deepest);
+      }
+  stop-of-run (ongoing u) e q = let number : 0 ≡ s .number = cc in absurd (omega (arith, least))
+
+  stop-of-check : (r : Reading) → afterCheck r (runOf sequential w arguments fuel τ workspace) ≡ Stopped s
+      → SameStop s (afterCheck r (runOf m w arguments fuel τ workspace))
+  unfolding afterCheck runOf
+  stop-of-check reading.Accepted q = stop-of-run _ refl q
+  stop-of-check (reading.Refused r) q = let no : _≡_ {A = ℕ} 0 1 = cc in absurd (omega arith)
+
+  stop-of-answer : (N : ℕ) → sequentialOf w arguments fuel N τ workspace ≡ Stopped s → SameStop s (answerOf m w arguments fuel N τ workspace)
+  unfolding answerOf
+  stop-of-answer N q = stop-of-check (checkedOf w (length arguments) fuel N τ workspace) q
+
+pub stops-agree : StopsForEveryInput
+stops-agree w arguments fuel N τ workspace = record {
+  at-a-stop = λ s q least most.
+      let above : 21 ≤ s .number = omega (arith, least) in (
+        stop-of-answer parallel w arguments fuel τ workspace s above N q,
+        stop-of-answer (heartbeat N) w arguments fuel τ workspace s above N q,
+      );
+}
+
+pub stops-agree-of : (w arguments : List ℕ) (fuel N τ workspace : ℕ) (s p h : Answer) → s ≡ sequentialOf w arguments fuel N τ workspace
+    → p ≡ parallelOf w arguments fuel N τ workspace → h ≡ heartbeatOf w arguments fuel N τ workspace → StopsAgree s p h
+stops-agree-of w arguments fuel N τ workspace s p h d e f = rw (d, e, f) (stops-agree w arguments fuel N τ workspace)

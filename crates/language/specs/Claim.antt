@@ -5,8 +5,9 @@ use Prim.Native.Nat.{ℕ, _+_, _*_, _≤_}
 use mathlib.Core.Path.{_≡_}
 use mathlib.Core.List.{List}
 use Rattle.language.specs.declared.Counts.{Counts}
+use Rattle.language.specs.declared.Stop.{Stop}
 use Rattle.language.specs.declared.Answer.{Answer}
-use Rattle.language.specs.declared.Answer.the-variants.{Value}
+use Rattle.language.specs.declared.Answer.the-variants.{Value, Stopped}
 use Rattle.language.specs.Answers.{sequentialOf, parallelOf, heartbeatOf, deepestOf}
 
 -- The four statements, beside a sequential answer with value v and counts a: the two other machines have the same value, with counts p and
@@ -38,4 +39,26 @@ pub record SameDepth (sequential parallel heartbeat : Answer) : Type 0 where
 abbrev pub DepthForEveryInput : Type 0
 DepthForEveryInput = (w arguments : List ℕ) (fuel N τ workspace : ℕ)
     → SameDepth (sequentialOf w arguments fuel N τ workspace) (parallelOf w arguments fuel N τ workspace)
+    (heartbeatOf w arguments fuel N τ workspace)
+
+-- BESIDE DEMAND 3 (02, P12), about a sequential stop s and another machine's answer: it is a stop "with the same number, function and node. Their
+-- transitions may be fewer, never more." The depth (02, P7) is the same too.
+pub record SameStop (s : Stop) (answer : Answer) : Type 0 where
+  pub other : Stop
+  pub is : answer ≡ Stopped other
+  pub number : other .number ≡ s .number
+  pub function : other .function ≡ s .function
+  pub node : other .node ≡ s .node
+  pub never-more : other .transitions ≤ s .transitions
+  pub depth : other .deepest ≡ s .deepest
+
+-- If the sequential answer is a stop "with 21, 22, 23 or 24", both others are that stop. "For stop 20 nothing is claimed": ExampleAgreement.antt
+-- shows that nothing can be.
+pub record StopsAgree (sequential parallel heartbeat : Answer) : Type 0 where
+  pub at-a-stop : (s : Stop) → sequential ≡ Stopped s → 21 ≤ s .number → s .number ≤ 24 → SameStop s parallel × SameStop s heartbeat
+
+-- THEOREM (proofs/Claim.antt, `stops-agree`), for every input.
+abbrev pub StopsForEveryInput : Type 0
+StopsForEveryInput = (w arguments : List ℕ) (fuel N τ workspace : ℕ)
+    → StopsAgree (sequentialOf w arguments fuel N τ workspace) (parallelOf w arguments fuel N τ workspace)
     (heartbeatOf w arguments fuel N τ workspace)

@@ -1,5 +1,5 @@
 -- What a reader of this crate must believe: the job language, the check of the input, the answers of the three machines, what every stop tells,
--- demand 3 about the answers, what their depth assures, the house default, the span and work of a value, and the settled runs.
+-- demand 3 about the answers and that their stops agree, what their depth assures, the house default, the span and work of a value, and the settled runs.
 pub mod Language
 pub mod Places
 pub mod Checks
@@ -15,4 +15,5 @@ pub mod Settled
 pub mod Examples
 pub mod ExampleStops
 pub mod ExampleDepths
+pub mod ExampleAgreement
 pub mod ExampleRefusals

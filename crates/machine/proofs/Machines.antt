@@ -25,7 +25,7 @@ use Rattle.language.specs.Admitted.{Admitted}
 use Rattle.language.specs.Answers.{toldBy, afterCheck, runOf, answerOf, sequentialOf, parallelOf, heartbeatOf}
 use Rattle.language.proofs.Told.{answer-refused, answer-run}
 use Rattle.language.proofs.Stops.{listed-of}
-use Rattle.language.proofs.Claim.{claim-of, same-depth-of}
+use Rattle.language.proofs.Claim.{claim-of, same-depth-of, stops-agree-of}
 use Rattle.moves.specs.declared.Plan.{Plan}
 use Rattle.machine.specs.Workspace.{leftBy}
 use Rattle.machine.specs.Runs.{Accepted, Ran, Tells}
@@ -114,4 +114,5 @@ module _ (w arguments : List ℕ) (fuel N τ : ℕ) (ws ws₁ ws₂ ws₃ : List
         heartbeat-stop = listed-of (heartbeat N) w arguments fuel N τ (length ws) h fh;
         demand-3 = claim-of w arguments fuel N τ (length ws) s p h es fp fh;
         same-depth = same-depth-of w arguments fuel N τ (length ws) s p h es fp fh;
+        stops-agree = stops-agree-of w arguments fuel N τ (length ws) s p h es fp fh;
       }

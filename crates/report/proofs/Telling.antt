@@ -26,14 +26,14 @@ use Rattle.schedule.specs.Machine.{sequential, parallel, heartbeat}
 use Rattle.language.specs.Values.{SpanPositive, WorkAtMost}
 use Rattle.language.proofs.Values.{spans-positive, sequential-work}
 use Rattle.language.proofs.Stops.{stops-listed}
-use Rattle.language.proofs.Claim.{claim, same-depth}
+use Rattle.language.proofs.Claim.{claim, same-depth, stops-agree}
 use Rattle.language.proofs.House.{house-overhead}
 use Rattle.machine.specs.declared.Answers.{Answers}
 use Rattle.machine.specs.AllThree.{AllThree}
 use Rattle.report.specs.Input.{countOf, wordsOf, orHouse, periodWord, jobOf, complete, whole}
 use Rattle.lines.specs.Lines.{ascii, breadthLine, machineLines, reportLines}
 use Rattle.lines.specs.Buffer.{Wrote}
-use Rattle.report.specs.Report.{noJob, StopsListedOf, DemandThreeOf, SameDepthOf, FivePercentOf, linesOn, wordsReport, wordsLeave, reportOf, leftAfter, WordsReported, Reported}
+use Rattle.report.specs.Report.{noJob, StopsListedOf, DemandThreeOf, SameDepthOf, StopsAgreeOf, FivePercentOf, linesOn, wordsReport, wordsLeave, reportOf, leftAfter, WordsReported, Reported}
 use Rattle.lines.proofs.Buffer.{same}
 
 -- what a complete input has
@@ -98,6 +98,9 @@ module _ (bytes ws out : List ℕ) where
   one-depth : SameDepthOf (jobOf (wordsOf bytes)) (length ws)
   one-depth = same-depth _ _ _ _ _ _
 
+  alike : StopsAgreeOf (jobOf (wordsOf bytes)) (length ws)
+  alike = stops-agree _ _ _ _ _ _
+
   overhead-bounded : FivePercentOf (wordsOf bytes) (length ws)
   unfolding jobOf orHouse
   overhead-bounded h = let zero : periodWord (wordsOf bytes) ≡ 0 = omega (arith, h) in rw zero (house-overhead _ _ _ _ _)
@@ -110,7 +113,7 @@ module _ (bytes ws out : List ℕ) where
   }
 
   pub cramped : length out < 512 → Reported bytes ws out ws out 0 × ByteCount 0 out
-  cramped h = (record { number = rw (lt-leb 512 (length out) h); written = rw (lt-leb 512 (length out) h); workspace = rw (lt-leb 512 (length out) h); stops = listed; demand-3 = every; same-depth = one-depth; five-percent = overhead-bounded }, (omega arith, refl))
+  cramped h = (record { number = rw (lt-leb 512 (length out) h); written = rw (lt-leb 512 (length out) h); workspace = rw (lt-leb 512 (length out) h); stops = listed; demand-3 = every; same-depth = one-depth; stops-agree = alike; five-percent = overhead-bounded }, (omega arith, refl))
 
   pub reported : (ws′ out′ : List ℕ) (r : ℕ) (text : List ℕ) → 512 ≤ length out → text ≡ reportOf bytes (length ws) → ws′ ≡ leftAfter bytes ws
       → Wrote out 0 text out′ r → Reported bytes ws out ws′ out′ r × ByteCount r out′
@@ -124,6 +127,7 @@ module _ (bytes ws out : List ℕ) where
           stops = listed;
           demand-3 = every;
           same-depth = one-depth;
+          stops-agree = alike;
           five-percent = overhead-bounded;
         },
         (room, sym (length-take-le r out′ room)),

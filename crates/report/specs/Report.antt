@@ -8,7 +8,7 @@ use lib.Dec.{leb}
 use Rattle.language.specs.declared.Answer.{Answer}
 use Rattle.language.specs.Answers.{Machine, sequentialOf, parallelOf, heartbeatOf}
 use Rattle.language.specs.Stops.{StopListed}
-use Rattle.language.specs.Claim.{DemandThree, SameDepth}
+use Rattle.language.specs.Claim.{DemandThree, SameDepth, StopsAgree}
 use Rattle.language.specs.House.{FivePercent}
 use Rattle.machine.specs.Workspace.{leftBy}
 use Rattle.report.specs.Input.{Job, wordsOf, periodWord, jobOf, complete, whole}
@@ -59,6 +59,11 @@ abbrev pub SameDepthOf : Job → ℕ → Type 0
 SameDepthOf job workspace =
     SameDepth (answerTo sequentialOf job workspace) (answerTo parallelOf job workspace) (answerTo heartbeatOf job workspace)
 
+-- 02, P12, of the answers that a report tells: where the sequential one is a stop 21 to 24, all three are.
+abbrev pub StopsAgreeOf : Job → ℕ → Type 0
+StopsAgreeOf job workspace =
+    StopsAgree (answerTo sequentialOf job workspace) (answerTo parallelOf job workspace) (answerTo heartbeatOf job workspace)
+
 -- 02, P2, of the answers that a report tells: 0 for N means 20 times the τ in use, "which holds the overhead to at most 5 percent of
 -- sequential work"
 abbrev pub FivePercentOf : List ℕ → ℕ → Type 0
@@ -81,4 +86,5 @@ pub record Reported (bytes ws out ws′ out′ : List ℕ) (r : ℕ) : Type 0 wh
   pub stops : StopsListedOf (jobOf (wordsOf bytes)) (length ws)
   pub demand-3 : DemandThreeOf (jobOf (wordsOf bytes)) (length ws)
   pub same-depth : SameDepthOf (jobOf (wordsOf bytes)) (length ws)
+  pub stops-agree : StopsAgreeOf (jobOf (wordsOf bytes)) (length ws)
   pub five-percent : FivePercentOf (wordsOf bytes) (length ws)
