@@ -86,7 +86,10 @@ enum {
  *     tau * heartbeat span <= (period + tau) * parallel span
  *     heartbeat work + 2 * heartbeat forks == sequential work + tau * heartbeat forks
  *
- * as whole numbers, with the words of the three answers; and all three have the same depth. */
+ * as whole numbers, with the words of the three answers; and all three have the same depth.
+ *
+ * If the sequential machine's answer is a stop with 21, 22, 23 or 24, then the two others' are stops with the same number, function, node
+ * and depth, and their transitions are at most its own. If it is a stop with 20, nothing is said of the others: they may have a value. */
 uint32_t mondupil_run(uint32_t machine,
                       const uint32_t *table, size_t table_len,
                       const uint64_t *args, size_t args_len,

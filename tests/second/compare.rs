@@ -1,6 +1,7 @@
 //! Compares the proved machines, through the static library of crate `capi`, and the report program, as a process, with the second
 //! implementation. compare [jobs [seed]]: so many jobs from the fixed seed and from a fresh one, and the small jobs of forms; or so many
 //! from the seed given. compare forms: the small jobs alone, from the fixed seed.
+mod agreement;
 mod boundaries;
 mod depths;
 mod faults;
@@ -15,6 +16,7 @@ mod second;
 mod settled;
 mod small;
 
+use agreement::Agreement;
 use depths::{Depths, DEPTH};
 use jobs::{Dice, Input};
 use program::{Reports, Tally};
@@ -39,6 +41,7 @@ struct Bench {
     /// The numbers of frames of the jobs that ran.
     frames: BTreeSet<usize>,
     depths: Depths,
+    agreement: Agreement,
     formed_promoted: u64,
     values: u64,
 }
@@ -132,6 +135,12 @@ impl Bench {
         }
     }
 
+    fn stops_agree(&mut self, j: &Input, [s, p, h]: [Words; 3]) {
+        if !self.agreement.holds(s, [p, h]) {
+            self.fail("stops that agree", j, format!("{s:?} {p:?} {h:?}"));
+        }
+    }
+
     fn one(&mut self, dice: &mut Dice, reports: &Reports, kind: &'static str, j: &Input) -> [Words; 3] {
         self.jobs += 1;
         *self.kinds.entry(kind).or_default() += 1;
@@ -143,6 +152,7 @@ impl Bench {
             self.unserved(dice, kind, j);
         }
         self.demand_three(j, answers);
+        self.stops_agree(j, answers);
         if dice.one_in(8) {
             self.frames_by_depth(dice, j, answers);
         }
@@ -286,7 +296,7 @@ impl Wants {
         self.places(b);
         self.of_round("numbers of frames".into(), b.frames.len(), 150);
         self.want("jobs with 1 frame and with 4,096".into(), [1, 4_096].iter().filter(|&f| b.frames.contains(f)).count(), 2);
-        for (what, have, least) in [b.depths.wanted(), b.lent.wanted()].concat() {
+        for (what, have, least) in [b.depths.wanted(), b.agreement.wanted(), b.lent.wanted()].concat() {
             self.of_round(what, have, least);
         }
         for kind in ["fuel exact", "fuel tight", "fuel at a stop", "frames tight", "mutated", "raw", "long", "random bytes", "short", "not served"] {
@@ -344,6 +354,7 @@ fn round(count: u64, seed: u64) -> u64 {
     println!("  different places: {:?}", b.places.iter().map(|(k, p)| (k, p.len())).collect::<Vec<_>>());
     println!("  frames: {} numbers, from {:?} to {:?}", b.frames.len(), b.frames.first(), b.frames.last());
     b.depths.told();
+    b.agreement.told();
     b.lent.told();
     println!("  lines of reports: {:?}", reports.lines);
     println!("  0 for N, by the word for tau: {:?}", reports.by_default);

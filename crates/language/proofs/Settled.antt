@@ -71,7 +71,7 @@ fewer-at-23 : (machine : Machine) (k : ℕ) → k < 9 → machine (joined 1) (0 
     → EqualTransitions machine → ⊥
 unfolding by-computation
 fewer-at-23 machine k l e h =
-    let same = h (joined 1) (0 ∷ 1 ∷ []) 100 1 2 8192 (stop-at 23 3 9 1) (stop-at 23 3 k 1) refl (omega arith) e in
+    let same = h (joined 1) (0 ∷ 1 ∷ []) 100 1 2 8192 (stop-at 23 3 9 1) (stop-at 23 3 k 1) refl (omega arith) (omega arith) e in
     omega (arith, l, same)
 
 pub not-equal : NotEqual

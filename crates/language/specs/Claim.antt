@@ -52,8 +52,8 @@ pub record SameStop (s : Stop) (answer : Answer) : Type 0 where
   pub never-more : other .transitions ≤ s .transitions
   pub depth : other .deepest ≡ s .deepest
 
--- If the sequential answer is a stop "with 21, 22, 23 or 24", both others are that stop. "For stop 20 nothing is claimed": ExampleAgreement.antt
--- shows that nothing can be.
+-- If the sequential answer is a stop "with 21, 22, 23 or 24", both others are that stop. "For stop 20 nothing is claimed": there it would be false
+-- (ExampleAgreement.antt, `NotAt20`).
 pub record StopsAgree (sequential parallel heartbeat : Answer) : Type 0 where
   pub at-a-stop : (s : Stop) → sequential ≡ Stopped s → 21 ≤ s .number → s .number ≤ 24 → SameStop s parallel × SameStop s heartbeat
 

@@ -100,7 +100,7 @@ AtStop20 machine = (w arguments : List ℕ) (fuel N τ workspace : ℕ) (s : Sto
 
 abbrev pub EqualTransitions : Machine → Type 0
 EqualTransitions machine = (w arguments : List ℕ) (fuel N τ workspace : ℕ) (s other : Stop) → sequentialOf w arguments fuel N τ workspace ≡ Stopped s
-    → 21 ≤ s .number → machine w arguments fuel N τ workspace ≡ Stopped other → other .transitions ≡ s .transitions
+    → 21 ≤ s .number → s .number ≤ 24 → machine w arguments fuel N τ workspace ≡ Stopped other → other .transitions ≡ s .transitions
 
 -- THEOREMS (`not-at-20`, `not-equal`): both are false, of either machine.
 abbrev pub NotAt20 : Type 0

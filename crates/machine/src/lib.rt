@@ -228,7 +228,7 @@ pub fn heartbeat(
     machine(words, arguments, settings, false, period, workspace)
 }
 
-// All three machines on one workspace, one after the other, with demand 3 of their answers and the same depth at a value.
+// All three machines on one workspace, one after the other, with demand 3 of their answers, the same depth at a value, and stops that agree.
 pub fn all_three(
     words: &[u32],
     arguments: &[u64],

@@ -13,8 +13,8 @@ use Rattle.language.specs.Answers.{toldBy, afterCheck, runOf, answerOf}
 use Rattle.report.specs.Input.{wordsOf, pairsOf, orHouse, jobOf, complete, whole}
 use Rattle.lines.specs.Lines.{digitsIn, refusalLine, depthField, valueLine, stopLine, answerLine, decimals, quotientLine, breadthLine, reportLines}
 use Rattle.report.specs.Report.{linesOn, wordsReport, reportOf}
-use Rattle.report.specs.Examples.{bytesOf, local, long, deeper, onA, rows, reports, told, ExampleReports}
+use Rattle.report.specs.Examples.{bytesOf, local, long, deeper, afterFork, onA, rows, reports, told, ExampleReports}
 
 pub written : ExampleReports
-unfolding bytesOf local long deeper onA rows reports told reportOf wordsReport linesOn reportLines breadthLine quotientLine decimals answerLine stopLine valueLine depthField refusalLine digitsIn whole complete jobOf orHouse pairsOf wordsOf answerOf afterCheck runOf toldBy checkedOf settingsOf workspaceOf argumentsOf rangeOf readOf bodies contents each bodyRead rootOf exact entry header _then_ nodesBefore arithmeticOf nodeOf work span promotable promote promoted-at-birth promotion-due with-fuel with-frame evaluated arrived move step start and-then run outcome result operated call next gathered arrive walk.unusedOf walk.callShape walk.shapeOf walk.next walk.afterFirst walk.children walk.own walk.walkOf
+unfolding bytesOf local long deeper afterFork onA rows reports told reportOf wordsReport linesOn reportLines breadthLine quotientLine decimals answerLine stopLine valueLine depthField refusalLine digitsIn whole complete jobOf orHouse pairsOf wordsOf answerOf afterCheck runOf toldBy checkedOf settingsOf workspaceOf argumentsOf rangeOf readOf bodies contents each bodyRead rootOf exact entry header _then_ nodesBefore arithmeticOf nodeOf work span promotable promote promoted-at-birth promotion-due with-fuel with-frame evaluated arrived move step start and-then run outcome result operated call next gathered arrive walk.unusedOf walk.callShape walk.shapeOf walk.next walk.afterFirst walk.children walk.own walk.walkOf
 written = refl

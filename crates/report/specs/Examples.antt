@@ -55,6 +55,19 @@ deeper =
     ∷ 0 ∷ 1 ∷ 0 ∷ 0
     ∷ []
 
+-- both: 1 and 2; the body calls function 1, which calls itself and adds 1
+unfoldable pub afterFork : List ℕ
+afterFork =
+    2 ∷ 0 ∷ 4 ∷ 0 ∷ 3
+    ∷ 6 ∷ 0 ∷ 2 ∷ 3
+    ∷ 0 ∷ 1 ∷ 0 ∷ 0
+    ∷ 0 ∷ 2 ∷ 0 ∷ 0
+    ∷ 5 ∷ 1 ∷ 0 ∷ 0
+    ∷ 2 ∷ 0 ∷ 2 ∷ 0
+    ∷ 5 ∷ 1 ∷ 0 ∷ 0
+    ∷ 0 ∷ 1 ∷ 0 ∷ 0
+    ∷ []
+
 -- fuel, N, τ and table A, with no arguments
 unfoldable pub onA : ℕ → ℕ → ℕ → List ℕ
 onA fuel N τ = bytesOf (fuel ∷ N ∷ τ ∷ 0 ∷ tableA)
@@ -90,6 +103,10 @@ rows =
     ∷ record { input = bytesOf (7 ∷ 3 ∷ 2 ∷ 0 ∷ endless); report = "sequential stop 20 function 0 node 0 transitions 7 deep 0\nparallel stop 20 function 0 node 0 transitions 7 deep 0\nheartbeat stop 20 function 0 node 0 transitions 7 deep 0\nbreadth none\n" }
     -- one that adds to what it gives, for ever: each call opens a frame, and all 256 are occupied at the stop
     ∷ record { input = bytesOf (0 ∷ 0 ∷ 0 ∷ 0 ∷ deeper); report = "sequential stop 21 function 0 node 0 transitions 512 deep 256\nparallel stop 21 function 0 node 0 transitions 512 deep 256\nheartbeat stop 21 function 0 node 0 transitions 512 deep 256\nbreadth none\n" }
+    -- 02, P12: the others stop "with the same number, function and node. Their transitions may be fewer"; where the sequential machine has no fuel for
+    -- the transition that stops, "nothing is claimed"
+    ∷ record { input = bytesOf (519 ∷ 2 ∷ 2 ∷ 0 ∷ afterFork); report = "sequential stop 21 function 1 node 0 transitions 518 deep 256\nparallel stop 21 function 1 node 0 transitions 515 deep 256\nheartbeat stop 21 function 1 node 0 transitions 516 deep 256\nbreadth none\n" }
+    ∷ record { input = bytesOf (518 ∷ 2 ∷ 2 ∷ 0 ∷ afterFork); report = "sequential stop 20 function 1 node 0 transitions 518 deep 256\nparallel stop 21 function 1 node 0 transitions 515 deep 256\nheartbeat stop 21 function 1 node 0 transitions 516 deep 256\nbreadth none\n" }
     -- two arguments, 5 + 2 · 2^32 and 640, "each argument as low then high word"
     ∷ record { input = bytesOf (0 ∷ 0 ∷ 0 ∷ 2 ∷ 5 ∷ 2 ∷ 640 ∷ 0 ∷ local 0); report = "sequential value 8589934597 work 1 span 1 forks 0 deep 0\nparallel value 8589934597 work 1 span 1 forks 0 deep 0\nheartbeat value 8589934597 work 1 span 1 forks 0 deep 0\nbreadth 1.00\n" }
     ∷ record { input = bytesOf (0 ∷ 0 ∷ 0 ∷ 2 ∷ 5 ∷ 2 ∷ 640 ∷ 0 ∷ local 1); report = "sequential value 640 work 1 span 1 forks 0 deep 0\nparallel value 640 work 1 span 1 forks 0 deep 0\nheartbeat value 640 work 1 span 1 forks 0 deep 0\nbreadth 1.00\n" }

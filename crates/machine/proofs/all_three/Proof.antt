@@ -1,4 +1,4 @@
--- `machine::all_three` meets its contract: each answer by its machine, its stop by `listed-of`, demand 3 by `claim-of` and the depth by `same-depth-of` (proofs/Machines.antt). Assumes nothing.
+-- `machine::all_three` meets its contract: each answer by its machine, its stop by `listed-of`, demand 3 by `claim-of`, the depth by `same-depth-of` and that stops agree by `stops-agree-of` (proofs/Machines.antt). Assumes nothing.
 use Rattle.machine.proofs.Machines.{all-three}
 use borrow.Author.Needs.{needs}
 use Rattle.machine.proofs.all_three.Statement.{statement}
