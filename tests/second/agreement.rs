@@ -1,10 +1,18 @@
 //! The stops of the three machines beside one another (02, P12), and how often each case was met.
 use crate::depths::DEPTH;
 use crate::second::Words;
-use std::collections::BTreeMap;
+use std::collections::{BTreeMap, BTreeSet};
 
 const TRANSITIONS: usize = 4;
-const STOPS: [u64; 4] = [21, 22, 23, 24];
+const MADE: [&str; 3] = ["the same transitions", "two different transitions", "three different transitions"];
+
+/// The stops that have to agree, and how many there are to be in a round of 20,000 jobs: by `MADE`, and beside a sequential stop 20.
+const STOPS: [(u64, [u64; 3], u64); 4] = [
+    (21, [300, 400, 200], 8),
+    (22, [25, 35, 70], 120),
+    (23, [12, 10, 25], 40),
+    (24, [8, 8, 25], 40),
+];
 
 /// A stop with the same number, function and node; its transitions may be fewer, never more; and the same depth.
 fn same(s: Words, other: Words) -> bool {
@@ -32,13 +40,9 @@ impl Agreement {
             }
             (1, number) => {
                 let [p, h] = others.map(|other| other[TRANSITIONS]);
-                let made = match s[TRANSITIONS] {
-                    k if k == p && k == h => "the same transitions",
-                    k if k == p || k == h || p == h => "two different transitions",
-                    _ => "three different transitions",
-                };
-                self.note(format!("stop {number}, {made}"));
-                STOPS.contains(&number) && others.into_iter().all(|other| same(s, other))
+                let different = BTreeSet::from([s[TRANSITIONS], p, h]).len();
+                self.note(format!("stop {number}, {}", MADE[different - 1]));
+                STOPS.iter().any(|stop| stop.0 == number) && others.into_iter().all(|other| same(s, other))
             }
             _ => true,
         }
@@ -58,11 +62,13 @@ impl Agreement {
 
     /// What is asked for in a round of 20,000 jobs, how often it was met, and the least.
     pub fn wanted(&self) -> Vec<(String, usize, u64)> {
-        let made = ["the same transitions", "two different transitions", "three different transitions"];
-        let stops = STOPS.iter().flat_map(|n| made.map(|made| (format!("stop {n}, {made}"), 1)));
-        let others = STOPS.iter().map(|n| (format!("stop 20 beside a stop {n}"), 1));
-        let beside = ["a value", "a stop 20 elsewhere", "the same stop"].map(|what| (format!("stop 20 beside {what}"), 1));
-        stops.chain(others).chain(beside).map(|(what, least)| (what.clone(), self.met.get(&what).copied().unwrap_or(0) as usize, least)).collect()
+        let beside = [("a value", 800), ("a stop 20 elsewhere", 2_500), ("a stop 20 with another depth", 8), ("the same stop", 2_000)];
+        let mut all: Vec<(String, u64)> = beside.map(|(what, least)| (format!("stop 20 beside {what}"), least)).into();
+        for (number, by_transitions, beside_20) in STOPS {
+            all.push((format!("stop 20 beside a stop {number}"), beside_20));
+            all.extend(MADE.iter().zip(by_transitions).map(|(made, least)| (format!("stop {number}, {made}"), least)));
+        }
+        all.into_iter().map(|(what, least)| (what.clone(), self.met.get(&what).copied().unwrap_or(0) as usize, least)).collect()
     }
 
     pub fn told(&self) {

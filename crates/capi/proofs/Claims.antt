@@ -111,7 +111,7 @@ same-words s out stop a f g same =
       function = omega (arith, f .at 2 (omega arith), k .at 2 (omega arith), same .function);
       node = omega (arith, f .at 3 (omega arith), k .at 3 (omega arith), same .node);
       never-more = omega (arith, f .at 4 (omega arith), k .at 4 (omega arith), same .never-more);
-      depth = λ ls lo. omega (arith, f .last ls, k .last lo, same .depth);
+      depth = λ ls lo. omega (arith, f .last (omega (arith, ls)), k .last (omega (arith, lo)), same .depth);
     }
 
 pub stops-of-calls : StopsOfCalls
