@@ -14,8 +14,13 @@ const STOPS: [(u64, [u64; 3], u64); 4] = [
     (24, [8, 8, 25], 40),
 ];
 
+/// Has another machine to stop where the sequential one stops?
+pub fn claimed(s: Words) -> bool {
+    s[0] == 1 && STOPS.iter().any(|stop| stop.0 == s[1])
+}
+
 /// A stop with the same number, function and node; its transitions may be fewer, never more; and the same depth.
-fn same(s: Words, other: Words) -> bool {
+pub fn same(s: Words, other: Words) -> bool {
     other[..4] == s[..4] && other[TRANSITIONS] <= s[TRANSITIONS] && other[DEPTH] == s[DEPTH]
 }
 
@@ -42,7 +47,7 @@ impl Agreement {
                 let [p, h] = others.map(|other| other[TRANSITIONS]);
                 let different = BTreeSet::from([s[TRANSITIONS], p, h]).len();
                 self.note(format!("stop {number}, {}", MADE[different - 1]));
-                STOPS.iter().any(|stop| stop.0 == number) && others.into_iter().all(|other| same(s, other))
+                claimed(s) && others.into_iter().all(|other| same(s, other))
             }
             _ => true,
         }

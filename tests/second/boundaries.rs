@@ -1,11 +1,14 @@
 //! Runs the jobs of `small` with every fuel, every number of frames and every N up to the end of any form, and compares them with the
-//! proved machines; counts which form was met at which boundary, and fails where one was not.
+//! proved machines; counts which form was met at which boundary, and fails where one was not. Each stop of the sequential machine that the
+//! others have to agree with (02, P12) is looked at beside theirs, with the same fuel and frames.
+use crate::agreement::{claimed, same};
 use crate::depths::DEPTH;
 use crate::forms::{longest, Counts, Forms};
 use crate::jobs::{Dice, Input};
 use crate::proved::Lent;
-use crate::second::{self, Answer, Job, Limits, Machine, ALL};
+use crate::second::{self, Answer, Job, Limits, Machine, Words, ALL};
 use crate::small::{failures, wanted, Random, Small, Writer, ARGS};
+use std::collections::HashMap;
 
 /// More transitions than any run of such a job makes, and an N that none comes to.
 const PLENTY: u64 = 10_000;
@@ -15,6 +18,8 @@ struct Rerun<'c> {
     job: &'c Job,
     input: Input,
     forms: Forms<'c>,
+    /// The sequential machine's answers, by workspace and fuel.
+    sequential: HashMap<(usize, u64), Words>,
 }
 
 struct Runs {
@@ -25,12 +30,14 @@ struct Runs {
     longest: u64,
     jobs: u64,
     runs: u64,
+    /// Stops of other machines beside the sequential one's.
+    stops: u64,
     bad: u64,
 }
 
 impl Runs {
     fn new(name: &'static str, seed: u64) -> Runs {
-        Runs { name, dice: Dice(seed), lent: Lent::default(), longest: longest(), jobs: 0, runs: 0, bad: 0 }
+        Runs { name, dice: Dice(seed), lent: Lent::default(), longest: longest(), jobs: 0, runs: 0, stops: 0, bad: 0 }
     }
 
     fn one(&mut self, i: usize, r: &mut Rerun) -> Answer {
@@ -39,12 +46,24 @@ impl Runs {
         let mine = second::run_accepted(ALL[i], r.job, &j.args, limits, Some(r.forms.machine(ALL[i])));
         self.runs += 1;
         for what in self.lent.differences(&mut self.dice, i, j, mine.words()) {
-            self.bad += 1;
-            if self.bad <= 5 {
-                println!("DISAGREE {}: {what}\n  {j:?}", self.name);
+            self.fail(j, what);
+        }
+        if ALL[i] == Machine::Sequential {
+            r.sequential.insert((j.workspace, j.fuel), mine.words());
+        } else if let Some(s) = r.sequential.get(&(j.workspace, j.fuel)).filter(|s| claimed(**s)) {
+            self.stops += 1;
+            if !same(*s, mine.words()) {
+                self.fail(j, format!("{:?} stops otherwise than the sequential machine, {mine:?}, not {s:?}", ALL[i]));
             }
         }
         mine
+    }
+
+    fn fail(&mut self, j: &Input, what: String) {
+        self.bad += 1;
+        if self.bad <= 5 {
+            println!("DISAGREE {}: {what}\n  {j:?}", self.name);
+        }
     }
 
     /// Every fuel up to one more than the run needs; where an operation fails, further by the longest form.
@@ -92,7 +111,7 @@ impl Runs {
         let job = second::read(&table).expect("an accepted table");
         let tau = 1 + self.dice.below(50);
         let input = Input { table, args: args.to_vec(), fuel: PLENTY, period: PLENTY, tau, workspace: 32 };
-        let mut r = Rerun { job: &job, input, forms: Forms::new(&job, counts) };
+        let mut r = Rerun { job: &job, input, forms: Forms::new(&job, counts), sequential: HashMap::new() };
         self.jobs += 1;
         for (i, m) in ALL.iter().enumerate() {
             for &period in if *m == Machine::Heartbeat { periods } else { &[PLENTY] } {
@@ -131,8 +150,11 @@ impl Runs {
     }
 
     fn told(&self) -> u64 {
-        println!("{}: {} jobs, {} runs, {} disagreements", self.name, self.jobs, self.runs, self.bad);
-        self.bad
+        println!(
+            "{}: {} jobs, {} runs, {} stops beside the sequential machine's, {} disagreements",
+            self.name, self.jobs, self.runs, self.stops, self.bad
+        );
+        self.bad + (self.stops == 0) as u64
     }
 }
 
