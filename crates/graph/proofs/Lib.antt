@@ -1,0 +1,2 @@
+-- The proofs of what specs/ states. Another crate cites them so: `use Rattle.graph.proofs.Words.{worked-out}`.
+pub mod Words
