@@ -16,8 +16,10 @@ use Rattle.moves.specs.declared.Step.the-variants.{Go}
 use Rattle.moves.specs.Layout.{ticked, halted}
 use Rattle.moves.specs.Ready.{transited, Opened, dry, opens}
 use Rattle.compact.specs.declared.Compact.{Compact}
+use Rattle.compact.specs.declared.Event.{Event}
 use Rattle.compact.specs.declared.Progress.{Progress}
-use Rattle.compact.specs.Compact.{full, stepOf, limitOf, Paced, PacedBy, compactOf, keptOf, keptBy}
+use Rattle.compact.specs.declared.Progress.the-variants as progress
+use Rattle.compact.specs.Compact.{full, stepOf, limitOf, Paced, PacedBy, compactOf, keptOf, keptBy, freedBy, Transits}
 
 -- THE LIMIT: not above the fuel, and where there is a fork, not above the start and a period
 limit-fuel : (plan : Plan) (since oldest : ℕ) → since ≤ plan .fuel .0 → limitOf plan since oldest ≤ plan .fuel .0
@@ -67,26 +69,41 @@ module _ (plan : Plan) (g : Compact) (p : Paced plan g) (s : Registers) (a : s .
 -- A FRAME IS OPENED, or none, by one step: what the moves tell of it, by the same machine
 module _ {plan : Plan} {g : Compact} (p : Paced plan g) {s : Registers} (e : s ≡ full g) {o : Step} {r : Progress} (u : r ≡ keptBy g o) where
   pub kept-opened : {ws ws′ ls : List ℕ} {seat : Seat} {kind : ℕ} → Opened ws ws′ ls plan s seat kind (g .oldest) o
-      → Opened ws ws′ ls plan (full g) seat kind (g .oldest) (stepOf r) × PacedBy plan r
-  unfolding keptBy stepOf PacedBy
+      → Opened ws ws′ ls plan (full g) seat kind (g .oldest) (stepOf r) × PacedBy plan r × Transits g r
+  unfolding keptBy stepOf PacedBy Transits
   kept-opened {ws} {ws′} {ls} {seat} {kind} t = rw u (on (rw e at t))
     where
-      on : Opened ws ws′ ls plan (full g) seat kind (g .oldest) o → Opened ws ws′ ls plan (full g) seat kind (g .oldest) (stepOf (keptBy g o)) × PacedBy plan (keptBy g o)
-      on (dry h c d) = rw d (dry h c refl, tt)
-      on (Opened.full h i c d) = rw d (Opened.full h i c refl, tt)
-      on (opens h i c d) = rw d (opens h i c (ap Go (kept-full plan g p _ refl refl refl refl)), kept-paced plan g p _ refl refl refl refl)
+      on : Opened ws ws′ ls plan (full g) seat kind (g .oldest) o → Opened ws ws′ ls plan (full g) seat kind (g .oldest) (stepOf (keptBy g o)) × PacedBy plan (keptBy g o) × Transits g (keptBy g o)
+      on (dry h c d) = rw d (dry h c refl, tt, tt)
+      on (Opened.full h i c d) = rw d (Opened.full h i c refl, tt, tt)
+      on (opens h i c d) = rw d (opens h i c (ap Go (kept-full plan g p _ refl refl refl refl)), kept-paced plan g p _ refl refl refl refl, omega arith)
 
-  pub kept-transited : (seat : Seat) (to : Control) → o ≡ transited plan s seat to → (stepOf r ≡ transited plan (full g) seat to) × PacedBy plan r
-  unfolding keptBy stepOf PacedBy
+  pub kept-transited : (seat : Seat) (to : Control) → o ≡ transited plan s seat to → (stepOf r ≡ transited plan (full g) seat to) × PacedBy plan r × Transits g r
+  unfolding keptBy stepOf PacedBy Transits
   kept-transited seat to t = rw (u, t, e) (on (ltb (g .transitions) (plan .fuel .0)))
     where
       after : Registers
       after = ticked (full g) to (g .depth) (g .oldest)
 
       on : (b : Bool) → (stepOf (keptBy g (cond b (Go after) (halted 20 (seat .function) (seat .node)))) ≡ cond b (Go after) (halted 20 (seat .function) (seat .node)))
-          × PacedBy plan (keptBy g (cond b (Go after) (halted 20 (seat .function) (seat .node))))
-      on true = (ap Go (kept-full plan g p after refl refl refl refl), kept-paced plan g p after refl refl refl refl)
-      on false = (refl, tt)
+          × PacedBy plan (keptBy g (cond b (Go after) (halted 20 (seat .function) (seat .node)))) × Transits g (keptBy g (cond b (Go after) (halted 20 (seat .function) (seat .node))))
+      on true = (ap Go (kept-full plan g p after refl refl refl refl), kept-paced plan g p after refl refl refl refl, omega arith)
+      on false = (refl, tt, tt)
+
+-- A FREE STEP is the same step
+pub freed-step : (event : Event) (r : Progress) → stepOf (freedBy event r) ≡ stepOf r
+unfolding freedBy stepOf
+freed-step event (progress.Go g) = refl
+freed-step event (progress.Free g before) = refl
+freed-step event (progress.Value v) = refl
+freed-step event (progress.Halt h) = refl
+
+pub freed-paced : (plan : Plan) (event : Event) (r : Progress) → PacedBy plan r → PacedBy plan (freedBy event r)
+unfolding freedBy PacedBy
+freed-paced plan event (progress.Go g) p = p
+freed-paced plan event (progress.Free g before) p = p
+freed-paced plan event (progress.Value v) p = p
+freed-paced plan event (progress.Halt h) p = p
 
 -- NO PROMOTION IS DUE below the limit
 pub never-due : (plan : Plan) (g : Compact) → Paced plan g → g .depth ≤ 4096 → g .transitions < g .limit

@@ -9,7 +9,8 @@ use Rattle.moves.specs.declared.Step.{Step}
 use Rattle.moves.specs.declared.Step.the-variants as step
 use Rattle.compact.specs.declared.Compact.{Compact}
 use Rattle.compact.specs.declared.Progress.{Progress}
-use Rattle.compact.specs.declared.Progress.the-variants.{Go, Value, Halt}
+use Rattle.compact.specs.declared.Event.{Event}
+use Rattle.compact.specs.declared.Progress.the-variants.{Go, Free, Value, Halt}
 
 -- THE REGISTERS that they stand for
 abbrev pub full : Compact → Registers
@@ -26,6 +27,7 @@ full g = record {
 
 unfoldable pub stepOf : Progress → Step
 stepOf (Go g) = step.Go (full g)
+stepOf (Free g event) = step.Go (full g)
 stepOf (Value v) = step.Value v
 stepOf (Halt h) = step.Halt h
 
@@ -41,6 +43,7 @@ pub record Paced (plan : Plan) (g : Compact) : Type 0 where
 
 unfoldable pub PacedBy : Plan → Progress → Type 0
 PacedBy plan (Go g) = Paced plan g
+PacedBy plan (Free g event) = Paced plan g
 PacedBy plan (Value v) = Unit {0}
 PacedBy plan (Halt h) = Unit {0}
 
@@ -86,6 +89,20 @@ unfoldable pub keptBy : Compact → Step → Progress
 keptBy g (step.Go s) = Go (keptOf g s)
 keptBy g (step.Value v) = Value v
 keptBy g (step.Halt h) = Halt h
+
+-- A STEP THAT WAS FREE, with its event
+unfoldable pub freedBy : Event → Progress → Progress
+freedBy event (Go g) = Free g event
+freedBy event (Free g before) = Free g before
+freedBy event (Value v) = Value v
+freedBy event (Halt h) = Halt h
+
+-- one that was not: where it goes on, a transition was made
+unfoldable pub Transits : Compact → Progress → Type 0
+Transits g (Go next) = g .transitions < next .transitions
+Transits g (Free next event) = ⊥
+Transits g (Value v) = Unit {0}
+Transits g (Halt h) = Unit {0}
 
 -- THE REGISTERS k transitions later, no deeper than before
 abbrev pub laterOf : Compact → Control → ℕ → ℕ → Compact

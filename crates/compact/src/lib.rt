@@ -13,7 +13,7 @@ ghost use mathlib.Core.Bool.{true, _&&_};
 ghost use Prim.Native.Nat.{_+_, _<_, _≤_, _^_, max};
 ghost use lib.Dec.{ltb, leb};
 ghost use Rattle.moves.specs.Ready.{Framed, transited, Opened};
-ghost use Rattle.compact.specs.Compact.{full, stepOf, limitOf, Paced, PacedBy, compactOf, settledOf, Settles, keptBy, laterOf, Small, Roomy};
+ghost use Rattle.compact.specs.Compact.{full, stepOf, limitOf, Paced, PacedBy, compactOf, settledOf, Settles, keptBy, freedBy, Transits, laterOf, Small, Roomy};
 
 // The registers of a run by one counter. Credits and span are told by the transitions since the running machine's start.
 pub struct Compact {
@@ -32,9 +32,17 @@ pub struct Compact {
     pub forks: u64,
 }
 
-// What a stride comes to.
+// What a free move changes in the cost graph, with its frame: a fork begins, by a promotion or promoted at its birth; its left graph ends; both end.
+pub enum Event {
+    Fork(usize),
+    Turn(usize),
+    Join(usize),
+}
+
+// What a stride comes to: registers to go on with after transitions, or after a free move with its event; a value or a stop.
 pub enum Progress {
     Go(Compact),
+    Free(Compact, Event),
     Value(u64),
     Halt(Stopped),
 }
@@ -143,6 +151,18 @@ fn keep(g: Compact, step: Step) -> Progress
     }
 }
 
+// A step that was free, with its event.
+pub fn free(progress: Progress, event: Event) -> Progress
+    ensures { λ r. ⌜ r ≡ freedBy event progress ⌝ }
+{
+    match progress {
+        Progress::Go(g) => Progress::Free(g, event),
+        Progress::Free(g, before) => Progress::Free(g, before),
+        Progress::Value(v) => Progress::Value(v),
+        Progress::Halt(h) => Progress::Halt(h),
+    }
+}
+
 // Can an operand of k transitions and so many more be made, with h frames more at once? An operand of 0 is not simple. The frames are there
 // where so many were occupied before; where not, the steps that open them are made one by one, and raise the depth.
 pub fn fits(g: Compact, k: u64, more: u64, h: usize) -> bool
@@ -195,7 +215,7 @@ pub fn open(
     kind: u64,
 ) -> Progress
     requires { ⌜ (Framed (now ws) (now locals) (full g) seat) × (Paced plan g) ⌝ }
-    ensures { λ r. ⌜ (Opened (now (ws .entry)) (now (ws .exit)) (now (locals .entry)) plan (full g) seat kind (g .oldest) (stepOf r)) × (PacedBy plan r) ⌝ }
+    ensures { λ r. ⌜ (Opened (now (ws .entry)) (now (ws .exit)) (now (locals .entry)) plan (full g) seat kind (g .oldest) (stepOf r)) × (PacedBy plan r) × (Transits g r) ⌝ }
 {
     let step = moves::open(ws, locals, plan, expand(g), seat, kind, g.oldest);
     keep(g, step)
@@ -204,7 +224,7 @@ pub fn open(
 // One step that opens no frame.
 pub fn transit(plan: Plan, g: Compact, seat: Seat, control: Control) -> Progress
     requires { ⌜ (Small g) × (full g .credits .0 < 2 ^ 60) × (full g .span .0 < 2 ^ 60) × (Paced plan g) ⌝ }
-    ensures { λ r. ⌜ (stepOf r ≡ transited plan (full g) seat control) × (PacedBy plan r) ⌝ }
+    ensures { λ r. ⌜ (stepOf r ≡ transited plan (full g) seat control) × (PacedBy plan r) × (Transits g r) ⌝ }
 {
     let step = moves::transit(plan, expand(g), seat, control);
     keep(g, step)

@@ -3,7 +3,8 @@
 --     copied-one .. -four the first words of a copy
 --     two-parts           a copy in two parts, and copied-rest where the first has four words
 --     getD-paste          a copy leaves each word before it
---     take-paste-below    and all of them together
+--     paste-other         and each after it
+--     take-paste-below    all of those before it together
 --     pasted              what was copied stands there
 --     getD-write-other    a write at offset i of a frame leaves the word at another offset j
 --     same-word, part-same  words of two lists that agree
@@ -12,6 +13,7 @@ use Prim.Native.Nat.{ℕ, _+_, _-_, _<_, _≤_}
 use mathlib.Core.Path.{_≡_, _∙_, ap, sym}
 use mathlib.Core.List.{List, _++_, append-assoc}
 use native.Mathlib.Omega.{arith}
+use native.Mathlib.Decide.{decLt}
 use native.Mathlib.Nat.{add-zero}
 use native.Mathlib.Numerals.{add-one}
 use lib.ListN.{length, getD, take, drop, set, length-drop, length-append, List·getD-append}
@@ -77,6 +79,23 @@ module _ (d : List ℕ) (at : ℕ) (s : List ℕ) (n : ℕ) (h : at ≤ length d
 
   pub pasted : n ≤ length s → take n (drop at (paste d at s n)) ≡ take n s
   pasted g = rw (append-assoc, drop-at (take at d) (take n s ++ drop (at + n) d) at (length-take-le at d h)) (take-at (take n s) (drop (at + n) d) n (length-take-le n s g))
+
+pub paste-other : (d : List ℕ) (at : ℕ) (s : List ℕ) (n : ℕ) → at + n ≤ length d → n ≤ length s → (i : ℕ) → (at ≤ i → i < at + n → ⊥)
+    → getD (paste d at s n) i 0 ≡ getD d i 0
+paste-other d at s n h g i apart = on (decLt i at)
+  where
+    on : Dec (i < at) → getD (paste d at s n) i 0 ≡ getD d i 0
+    on (yes l) = getD-paste d at s n (omega arith) i l
+    on (no l) = after (decLt i (at + n))
+      where
+        after : Dec (i < at + n) → getD (paste d at s n) i 0 ≡ getD d i 0
+        after (yes m) = absurd (apart (omega arith) m)
+        after (no m) =
+            let e : i ≡ at + n + (i - (at + n)) = omega arith in
+            let P : List ℕ = paste d at s n in
+            ap (λ (j : ℕ). getD P j 0) e ∙ sym (getD-drop (at + n) P (i - (at + n)) 0)
+            ∙ ap (λ (l : List ℕ). getD l (i - (at + n)) 0) (drop-paste d at s n (omega arith) g)
+            ∙ getD-drop (at + n) d (i - (at + n)) 0 ∙ ap (λ (j : ℕ). getD d j 0) (sym e)
 
 pub getD-write-other : (ws : List ℕ) (b i j v : ℕ) → (i ≡ j → ⊥) → getD (set ws (b + i) v) (b + j) 0 ≡ getD ws (b + j) 0
 getD-write-other ws b i j v h = getD-set-other ws (b + i) (b + j) v 0 (omega arith)

@@ -3,7 +3,8 @@
 --     Turned, is-turned          those of a turned frame
 --     Collected, is-collected    those of a frame that has collected an argument
 --     Marked, is-marked          those of a promoted frame, and those of the others
---     Agree, frames-agree        what a frame holds in two lists where its words agree
+--     pushed-spares and so on    a write leaves every word from the 28th of a frame on, and all words of other frames
+--     Agree, frames-agree        what a frame holds in two lists where its words agree, but for the places of a fork
 --     Loaded, is-loaded          the locals that were brought back
 --     Appended, is-appended      the locals with one more
 -- `ws` are the words before and `ws′` those after; b is a frame's first word. Assumes nothing.
@@ -15,7 +16,7 @@ use native.Mathlib.Numerals.{add-one}
 use lib.ListN.{length, getD, take, drop, set, length-set, length-drop}
 use lib.Seq.{take-set-le, drop-set-lt, drop-set-add, getD-set-same, getD-set-other, length-paste, take-suc-set}
 use Rattle.frames.specs.Frames.{localsWord, argumentsWord, frameKind, frameFunction, frameNode, frameCount, frameValue, frameBefore, frameLeft, pushed, turned, collected, marked, loaded, appended}
-use Rattle.frames.proofs.Words.{getD-paste, take-paste-below, pasted, getD-write-other, part-same}
+use Rattle.frames.proofs.Words.{getD-paste, paste-other, take-paste-below, pasted, getD-write-other, part-same}
 
 -- A new frame stands at b: it has this kind, function and node, saves the first k of the locals `ls`, has the value 0 and this span
 -- before the fork. The words below it and their number are as before.
@@ -177,7 +178,46 @@ module _ (ws ws′ : List ℕ) (b : ℕ) (h : b + 32 ≤ length ws) where
         others = λ i l. getD-set-other x1 (b + 5) i g 0 (λ e. l (omega arith) (omega arith)) ∙ getD-set-other ws b i kind 0 (λ e. l (omega arith) (omega arith));
       })
 
-pub frames-agree : (ws ws′ : List ℕ) → length ws ≡ length ws′ → (b : ℕ) → b + 32 ≤ length ws → ((i : ℕ) → b ≤ i → i < b + 32 → getD ws i 0 ≡ getD ws′ i 0)
+-- WORDS THAT NO WRITE TOUCHES: those of other frames, and the places of a fork
+module _ (ws ws′ : List ℕ) (b i : ℕ) (room : b + 32 ≤ length ws) (apart : b ≤ i → i < b + 27 → ⊥) where
+  other : (j : ℕ) → j < 27 → i ≡ b + j → ⊥
+  other j h e = apart (omega arith) (omega arith)
+
+  pub pushed-spares : (kind function node k : ℕ) (ls : List ℕ) (before : ℕ) → k ≤ 16 → length ls ≡ 16 → ws′ ≡ pushed ws b kind function node k ls before
+      → getD ws′ i 0 ≡ getD ws i 0
+  unfolding pushed
+  pushed-spares kind function node k ls before g l is =
+      let x1 : List ℕ = set ws b kind in
+      let x2 : List ℕ = set x1 (b + 1) function in
+      let x3 : List ℕ = set x2 (b + 2) node in
+      let x4 : List ℕ = set x3 (b + 3) k in
+      let x5 : List ℕ = set x4 (b + 4) 0 in
+      let x6 : List ℕ = set x5 (b + 5) before in
+      let same : length x6 ≡ length ws = simp length-set in
+      rw is (paste-other x6 (b + 8) ls k (omega arith) (omega arith) i (λ y z. apart (omega arith) (omega arith))
+      ∙ getD-set-other x5 (b + 5) i before 0 (other 5 (omega arith)) ∙ getD-set-other x4 (b + 4) i 0 0 (other 4 (omega arith))
+      ∙ getD-set-other x3 (b + 3) i k 0 (other 3 (omega arith)) ∙ getD-set-other x2 (b + 2) i node 0 (other 2 (omega arith))
+      ∙ getD-set-other x1 (b + 1) i function 0 (other 1 (omega arith)) ∙ getD-set-other ws b i kind 0 (λ e. other 0 (omega arith) (omega arith)))
+
+  pub turned-spares : (kind v g : ℕ) → ws′ ≡ turned ws b kind v g → getD ws′ i 0 ≡ getD ws i 0
+  unfolding turned
+  turned-spares kind v g is =
+      let x1 : List ℕ = set ws b kind in
+      let x2 : List ℕ = set x1 (b + 4) v in
+      rw is (getD-set-other x2 (b + 6) i g 0 (other 6 (omega arith)) ∙ getD-set-other x1 (b + 4) i v 0 (other 4 (omega arith))
+      ∙ getD-set-other ws b i kind 0 (λ e. other 0 (omega arith) (omega arith)))
+
+  pub collected-spares : (n v : ℕ) → n < 3 → ws′ ≡ collected ws b n v → getD ws′ i 0 ≡ getD ws i 0
+  unfolding collected
+  collected-spares n v l is =
+      rw is (getD-set-other (set ws (b + 24 + n) v) (b + 4) i (n + 1) 0 (other 4 (omega arith))
+      ∙ getD-set-other ws (b + 24 + n) i v 0 (λ e. other (24 + n) (omega arith) (omega arith)))
+
+  pub marked-spares : (kind g : ℕ) → ws′ ≡ marked ws b kind g → getD ws′ i 0 ≡ getD ws i 0
+  marked-spares kind g is =
+      rw is (getD-set-other (set ws b kind) (b + 5) i g 0 (other 5 (omega arith)) ∙ getD-set-other ws b i kind 0 (λ e. other 0 (omega arith) (omega arith)))
+
+pub frames-agree : (ws ws′ : List ℕ) → length ws ≡ length ws′ → (b : ℕ) → b + 32 ≤ length ws → ((i : ℕ) → b ≤ i → i < b + 27 → getD ws i 0 ≡ getD ws′ i 0)
     → Agree ws ws′ b
 frames-agree ws ws′ long b h word = record {
   is-kind = word b (omega arith) (omega arith);

@@ -7,7 +7,7 @@ use lib.ListN.{getD, take, drop, set}
 use lib.Seq.{paste}
 use Rattle.frames.specs.declared.Seat.{Seat}
 
--- THE LAYOUT of a frame, which is 32 words: where each of its parts stands. Word 7 and the last five are not used.
+-- THE LAYOUT of a frame, which is 32 words: where each of its parts stands. Word 7 and the last three are not used.
 abbrev pub functionWord : ℕ → ℕ
 functionWord b = b + 1
 
@@ -32,6 +32,12 @@ localsWord b = b + 8
 abbrev pub argumentsWord : ℕ → ℕ
 argumentsWord b = b + 24
 
+abbrev pub placeWord : ℕ → ℕ
+placeWord b = b + 27
+
+abbrev pub rightWord : ℕ → ℕ
+rightWord b = b + 28
+
 -- WHAT A FRAME HOLDS: its kind, the function and the node, how many locals it saves, its value (or how many arguments are collected), the
 -- span before the fork and that of the left branch
 abbrev pub frameKind : List ℕ → ℕ → ℕ
@@ -54,6 +60,13 @@ frameBefore ws b = getD ws (beforeWord b) 0
 
 abbrev pub frameLeft : List ℕ → ℕ → ℕ
 frameLeft ws b = getD ws (leftWord b) 0
+
+-- where a fork's three words stand in the graph's buffer, and where its right graph begins there (document 02, P1)
+abbrev pub framePlace : List ℕ → ℕ → ℕ
+framePlace ws b = getD ws (placeWord b) 0
+
+abbrev pub frameRight : List ℕ → ℕ → ℕ
+frameRight ws b = getD ws (rightWord b) 0
 
 abbrev pub seatAt : List ℕ → ℕ → Seat
 seatAt ws b = record { function = frameFunction ws b; node = frameNode ws b; count = frameCount ws b }
@@ -85,6 +98,13 @@ collected ws b n v = set (set ws (argumentsWord b + n) v) (valueWord b) (n + 1)
 -- a frame promoted: another kind, and the span before the fork
 abbrev pub marked : List ℕ → ℕ → ℕ → ℕ → List ℕ
 marked ws b kind span = set (set ws b kind) (beforeWord b) span
+
+-- the places that a fork keeps
+abbrev pub placed : List ℕ → ℕ → ℕ → List ℕ
+placed ws b place = set ws (placeWord b) place
+
+abbrev pub rightPlaced : List ℕ → ℕ → ℕ → List ℕ
+rightPlaced ws b right = set ws (rightWord b) right
 
 -- k locals brought back from the words from `from` on
 abbrev pub loaded : List ℕ → List ℕ → ℕ → ℕ → List ℕ

@@ -12,15 +12,17 @@
 //     b + 6     the span of the left branch
 //     b + 8     the saved locals, at most 16
 //     b + 24    the collected arguments, at most 3
+//     b + 27    where the fork's three words stand in the graph's buffer
+//     b + 28    where its right graph begins there
 //
-// The words b + 7 and b + 27 to b + 31 are not used. What a kind means, and where each frame begins, is the machine's affair.
+// The words b + 7 and b + 29 to b + 31 are not used. What a kind means, and where each frame begins, is the machine's affair.
 
 use schedule::Span;
 ghost use mathlib.Core.Path.{_≡_};
 ghost use Prim.Native.Nat.{_+_, _<_, _≤_};
 ghost use lib.ListN.{length, drop, replicate};
 ghost use lib.Seq.{paste};
-ghost use Rattle.frames.specs.Frames.{localsWord, argumentsWord, frameKind, frameValue, frameBefore, frameLeft, seatAt, saved, pushed, turned, collected, marked, loaded, appended};
+ghost use Rattle.frames.specs.Frames.{localsWord, argumentsWord, frameKind, frameValue, frameBefore, frameLeft, framePlace, frameRight, seatAt, saved, pushed, turned, collected, marked, placed, rightPlaced, loaded, appended};
 
 // The words of a frame, and where its parts stand in it.
 pub const WORDS: usize = 32;
@@ -40,6 +42,10 @@ const LEFT: usize = 6;
 pub const LOCALS: usize = 8;
 
 const ARGUMENTS: usize = 24;
+
+const PLACE: usize = 27;
+
+const RIGHT: usize = 28;
 
 // Where a frame's node stands, with how many locals are bound there.
 pub struct Seat {
@@ -147,6 +153,20 @@ pub fn left_of(ws: &[u64], b: usize) -> Span
     Span(ws[b + LEFT])
 }
 
+pub fn place_of(ws: &[u64], b: usize) -> usize
+    requires { ⌜ b + 32 ≤ length (now ws) ⌝ }
+    ensures { λ r. ⌜ r ≡ framePlace (now (ws .entry)) b ⌝ }
+{
+    ws[b + PLACE] as usize
+}
+
+pub fn right_of(ws: &[u64], b: usize) -> usize
+    requires { ⌜ b + 32 ≤ length (now ws) ⌝ }
+    ensures { λ r. ⌜ r ≡ frameRight (now (ws .entry)) b ⌝ }
+{
+    ws[b + RIGHT] as usize
+}
+
 // Turns a frame to its second child: another kind, the first child's value and, at a fork, the span of the left branch.
 pub fn turn(ws: &mut [u64], b: usize, kind: u64, v: u64, span: Span)
     requires { ⌜ b + 32 ≤ length (now ws) ⌝ }
@@ -173,6 +193,22 @@ pub fn mark(ws: &mut [u64], b: usize, kind: u64, span: Span)
 {
     ws[b] = kind;
     ws[b + BEFORE] = span.0;
+}
+
+// Keeps where a fork's three words stand in the graph's buffer.
+pub fn keep_place(ws: &mut [u64], b: usize, place: usize)
+    requires { ⌜ b + 32 ≤ length (now ws) ⌝ }
+    ensures { λ _. ⌜ now (ws .exit) ≡ placed (now (ws .entry)) b place ⌝ }
+{
+    ws[b + PLACE] = place as u64;
+}
+
+// Keeps where its right graph begins there.
+pub fn keep_right(ws: &mut [u64], b: usize, right: usize)
+    requires { ⌜ b + 32 ≤ length (now ws) ⌝ }
+    ensures { λ _. ⌜ now (ws .exit) ≡ rightPlaced (now (ws .entry)) b right ⌝ }
+{
+    ws[b + RIGHT] = right as u64;
 }
 
 // Brings the k locals that a frame saves back.

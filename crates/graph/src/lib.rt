@@ -1,11 +1,91 @@
-// The words of a cost graph.
-ghost use mathlib.Core.Path.{_≡_};
-ghost use lib.ListN.{length};
-ghost use Rattle.graph.specs.Words.{head};
+// Writes the words of a cost graph (document 02, P1) while a run goes on.
+//
+// A stretch of k transitions is the words 0, k; a fork is 1, the left graph's length, the right graph's length, then both graphs. The caller keeps how
+// many words there are so far, n, the transitions of the last stretch, k, and for each open fork the place of its three words. Past the buffer's end
+// words are counted and not written. What each function leaves is defined in specs/Writing.antt.
 
-// The words of a fork before its left graph.
-pub fn head_words() -> u64
-    ensures { λ r. ⌜ r ≡ length (head 0 0) ⌝ }
+ghost use mathlib.Core.Path.{_≡_};
+ghost use mathlib.Core.List.{_++_};
+ghost use Prim.Native.Nat.{_+_, _-_, _≤_, _<_, _^_};
+ghost use lib.ListN.{length, take, set, replicate};
+ghost use Rattle.graph.specs.Writing.{count-ended, lent-ended, lent-forked, lent-turned, lent-joined};
+
+// The first word of a stretch, and of a fork.
+const STRETCH: u32 = 0;
+
+const FORK: u32 = 1;
+
+// Writes a word, if the buffer reaches so far.
+fn put(graph: &mut [u32], at: usize, word: u32)
+    ensures { λ _. ⌜ now (graph .exit) ≡ set (now (graph .entry)) at word ⌝ }
 {
-    3
+    if at < graph.len() {
+        graph[at] = word;
+    }
+}
+
+// Ends the stretch: the number of words with it. A stretch of none is no word.
+pub fn end_stretch(graph: &mut [u32], n: usize, k: u64) -> usize
+    requires { ⌜ (n < 2 ^ 60) × (k < 2 ^ 32) ⌝ }
+    ensures { λ r. ⌜ (r ≡ count-ended n k) × (now (graph .exit) ≡ lent-ended (now (graph .entry)) n k) ⌝ }
+{
+    if k == 0 {
+        return n;
+    }
+    put(graph, n, STRETCH);
+    put(graph, n + 1, k as u32);
+    n + 2
+}
+
+// Begins a fork: its place, where its three words stand, with lengths that are not known yet.
+pub fn fork(graph: &mut [u32], n: usize, k: u64) -> usize
+    requires { ⌜ (n < 2 ^ 60) × (k < 2 ^ 32) ⌝ }
+    ensures { λ r. ⌜ (r ≡ count-ended n k) × (now (graph .exit) ≡ lent-forked (now (graph .entry)) n k) ⌝ }
+{
+    let place = end_stretch(graph, n, k);
+    put(graph, place, FORK);
+    put(graph, place + 1, 0);
+    put(graph, place + 2, 0);
+    place
+}
+
+// Ends the left graph of the fork at this place, whose length is filled in: where the right one begins.
+pub fn turn(graph: &mut [u32], n: usize, k: u64, place: usize) -> usize
+    requires { ⌜ (n < 2 ^ 60) × (k < 2 ^ 32) × (place + 3 ≤ count-ended n k) × (count-ended n k < 2 ^ 32) ⌝ }
+    ensures { λ r. ⌜ (r ≡ count-ended n k) × (now (graph .exit) ≡ lent-turned (now (graph .entry)) n k place) ⌝ }
+{
+    let end = end_stretch(graph, n, k);
+    let left = end - (place + 3);
+    put(graph, place + 1, left as u32);
+    end
+}
+
+// Ends the right graph of the fork at this place, which began at `right`; its length is filled in.
+pub fn join(graph: &mut [u32], n: usize, k: u64, place: usize, right: usize) -> usize
+    requires { ⌜ (n < 2 ^ 60) × (k < 2 ^ 32) × (place < 2 ^ 32) × (right ≤ count-ended n k) × (count-ended n k < 2 ^ 32) ⌝ }
+    ensures { λ r. ⌜ (r ≡ count-ended n k) × (now (graph .exit) ≡ lent-joined (now (graph .entry)) n k place right) ⌝ }
+{
+    let end = end_stretch(graph, n, k);
+    let length = end - right;
+    put(graph, place + 2, length as u32);
+    end
+}
+
+// Sets every word to 0.
+fn zero(graph: &mut [u32])
+    ensures { λ _. ⌜ now (graph .exit) ≡ replicate (length (now (graph .entry))) 0 ⌝ }
+{
+    let mut i = 0;
+    while i < graph.len() {
+        graph[i] = 0;
+        i += 1;
+    }
+}
+
+// Sets every word from this one on to 0.
+pub fn clear(graph: &mut [u32], from: usize)
+    requires { ⌜ from ≤ length (now graph) ⌝ }
+    ensures { λ _. ⌜ now (graph .exit) ≡ take from (now (graph .entry)) ++ replicate (length (now (graph .entry)) - from) 0 ⌝ }
+{
+    zero(&mut graph[from..]);
 }

@@ -19,6 +19,7 @@ use Rattle.moves.specs.declared.Step.the-variants.{Go}
 use Rattle.moves.specs.Layout.{stateOf, resultOf}
 use Rattle.moves.specs.Ready.{Ready, KeptBy, Stepped, Advanced, Promoted}
 use Rattle.moves.proofs.Promotion.{due-is, promote-told}
+use Rattle.moves.proofs.Sparing.{spared-marked}
 
 and-right : (a b : Bool) → (a && b) ≡ true → b ≡ true
 and-right true b e = e
@@ -53,6 +54,7 @@ module _ (w ws ls : List ℕ) (plan : Plan) (s : Registers) (r : Ready w ws ls p
           oldest = rw d (x .1 .1);
           born = λ y. absurd (omega (arith, promote-ready b e t, r .kept .born y));
         };
+        spared = spared-marked ws ws′ (s .oldest) (omega (arith, r .kept .room, promote-ready b e t .1)) 7 (s .span .0) (u .words);
       }
 
   pub advanced-move : (b : Bool) → b ≡ (leb (plan .period) (s .credits .0) && ltb (s .oldest) (s .depth)) → b ≡ false
@@ -60,4 +62,4 @@ module _ (w ws ls : List ℕ) (plan : Plan) (s : Registers) (r : Ready w ws ls p
   unfolding step-by
   advanced-move b e t ws′ ls′ o u =
       let q : (leb (plan .period) (s .credits .0) && ltb (s .oldest) (s .depth)) ≡ false = sym e ∙ t in
-      record { same = rw (due-is ws (s .depth) (s .oldest) (r .kept .oldest), q) (u .same); kept = u .kept }
+      record { same = rw (due-is ws (s .depth) (s .oldest) (r .kept .oldest), q) (u .same); kept = u .kept; spared = u .spared }

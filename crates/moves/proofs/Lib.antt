@@ -4,6 +4,7 @@ pub mod Frames
 pub mod Stacks
 pub mod OldestFork
 pub mod Promotion
+pub mod Sparing
 pub mod Advancing
 pub mod Steps
 pub mod Returning

@@ -37,6 +37,7 @@ use Rattle.moves.proofs.Nodes.{start-is, arithmetic-in, operation-in, c
 use Rattle.moves.proofs.Frames.{frame-locals, body-locals}
 use Rattle.moves.proofs.Stacks.{stack-more, held-more, held-top, same-slots, few-arguments}
 use Rattle.moves.proofs.OldestFork.{oldest-other, oldest-under, oldest-without, without-none}
+use Rattle.moves.proofs.Sparing.{spared-same, spared-turned, spared-collected}
 
 module _ (w ws ls : List ℕ) (plan : Plan) (s : Registers) (v t kind : ℕ) (q : Returns w ws ls plan s v t kind) where
   abbrev r : Ready w ws ls plan s
@@ -123,7 +124,7 @@ module _ (w ws ls : List ℕ) (plan : Plan) (s : Registers) (v t kind : ℕ) (q 
       → from (slotOf kind code (frameValue ws (32 * t)) (frameArguments ws (32 * t)) (frameBefore ws (32 * t)) (frameLeft ws (32 * t))) ≡ to d (stackOf ws t)
       → (n : Registers) → n ≡ ticked s c t (s .oldest) → Stepped w ws ls plan s ws ls′ (Go n)
   unfolding resultOf KeptBy
-  closed ls′ c d x l h k m n u = rw u (record { same = returned ∙ m ∙ rw x; kept = closed-kept ls′ c l h k })
+  closed ls′ c d x l h k m n u = rw u (record { same = returned ∙ m ∙ rw x; kept = closed-kept ls′ c l h k; spared = spared-same ws })
 
   -- a child of the frame's node, with the frame's locals
   module _ (last : Bool) (ls′ : List ℕ) (seat : Seat) (h : Child w ws ls (32 * t) last ls′ seat) where
@@ -208,6 +209,7 @@ module _ (w ws ls : List ℕ) (plan : Plan) (s : Registers) (v t : ℕ) where
             ∙ rw (turned-code w ws ls plan s v t 0 q 1 0 ws′ ls′ seat long u h, turned-stack w ws ls plan s v t 0 q 1 0 ws′ ls′ seat long u h (ordinary (right-operand (codeAt ws (32 * t)) v)) (λ vs. refl));
         kept = turned-kept w ws ls plan s v t 0 q 1 0 ws′ ls′ seat long u h (s .oldest) (record { stands = fit .stands; tag = tag; awaits = λ y. absurd (omega arith) }) (arithmetic-in w table (fit .stands) tag .1)
             (oldest-turned w ws ls plan s v t 0 q 1 0 ws′ ls′ seat long u h (λ z. omega arith) (λ z. omega arith) (λ z. absurd (omega arith))) (q .ready .kept .born);
+        spared = spared-turned ws ws′ t (room w ws ls plan s v t 0 q) 1 v 0 u;
       })
 
   pub stepped-plain-left : (q : Returns w ws ls plan s v t 5) → Paid plan s → (ws′ ls′ : List ℕ) (seat : Seat) → length ws′ ≡ length ws → ws′ ≡ turned ws (32 * t) 6 v 0 → Child w ws′ ls (32 * t) false ls′ seat
@@ -224,6 +226,7 @@ module _ (w ws ls : List ℕ) (plan : Plan) (s : Registers) (v t : ℕ) where
         kept = turned-kept w ws ls plan s v t 5 q 6 0 ws′ ls′ seat long u h (oldestWithout (s .oldest) t) (record { stands = fit .stands; tag = tag; awaits = λ y. absurd (omega arith) }) (both-in w table (fit .stands) tag .2)
             (oldest-other ws ws′ t (sym (x .below)) (oldestWithout (s .oldest) t) (small w ws ls plan s v t 5 q) (oldest-without ws t (s .oldest) (small w ws ls plan s v t 5 q) (oldest-here w ws ls plan s v t 5 q)) (λ z. omega (arith, x .is-kind)) (λ z. absurd (omega (arith, x .is-kind))))
             (λ z. without-none (s .oldest) t (q .ready .kept .born z));
+        spared = spared-turned ws ws′ t (room w ws ls plan s v t 5 q) 6 v 0 u;
       })
 
   pub stepped-turn : (q : Returns w ws ls plan s v t 7) → (ws′ ls′ : List ℕ) (seat : Seat) → length ws′ ≡ length ws → ws′ ≡ turned ws (32 * t) 8 v (s .span .0) → Child w ws′ ls (32 * t) false ls′ seat
@@ -238,6 +241,7 @@ module _ (w ws ls : List ℕ) (plan : Plan) (s : Registers) (v t : ℕ) where
             ∙ rw (turned-code w ws ls plan s v t 7 q 8 (s .span .0) ws′ ls′ seat long u h, turned-stack w ws ls plan s v t 7 q 8 (s .span .0) ws′ ls′ seat long u h (promoted-right (frameBefore ws (32 * t)) (s .span .0) (codeAt ws (32 * t)) v) (λ vs. refl));
         kept = turned-kept w ws ls plan s v t 7 q 8 (s .span .0) ws′ ls′ seat long u h (s .oldest) (record { stands = fit .stands; tag = tag; awaits = λ y. absurd (omega arith) }) (both-in w table (fit .stands) tag .2)
             (oldest-turned w ws ls plan s v t 7 q 8 (s .span .0) ws′ ls′ seat long u h (λ z. omega arith) (λ z. omega arith) (λ z. omega arith)) (q .ready .kept .born);
+        spared = spared-turned ws ws′ t (room w ws ls plan s v t 7 q) 8 v (s .span .0) u;
       })
 
   pub stepped-condition : (q : Returns w ws ls plan s v t 2) → Paid plan s → (ls′ : List ℕ) (seat : Seat) → Child w ws ls (32 * t) (eqb v 0) ls′ seat
@@ -285,6 +289,7 @@ module _ (w ws ls : List ℕ) (plan : Plan) (s : Registers) (v t : ℕ) where
   stepped-plain-right q paid ls′ c h n e = rw e (record {
     same = returned w ws ls plan s v t 6 q ∙ rw (lt-ltb _ _ paid, body-code 6 q (omega arith) (plain-few q) ls′ c h);
     kept = body-kept 6 q (omega arith) (plain-few q) ls′ c h refl;
+    spared = spared-same ws;
   })
 
   -- the kinds from 8 on
@@ -316,6 +321,7 @@ module _ (w ws ls : List ℕ) (plan : Plan) (s : Registers) (v t : ℕ) where
       same = returned w ws ls plan s v t kind q
           ∙ rw (late-slot kind late (codeAt ws (32 * t)) (frameValue ws (32 * t)) (frameArguments ws (32 * t)) (frameBefore ws (32 * t)) (frameLeft ws (32 * t)), body-code kind q (omega arith) both-few ls′ c h);
       kept = body-kept kind q (omega arith) both-few ls′ c h (late-tag kind late);
+      spared = spared-same ws;
     })
 
   -- the function that a call's frame calls, read through the array of starts
@@ -372,6 +378,7 @@ module _ (w ws ls : List ℕ) (plan : Plan) (s : Registers) (v t : ℕ) where
             oldest = oldest-other ws ws′ t (sym (u .below)) (s .oldest) (small w ws ls plan s v t 4 q) (oldest-under ws t (s .oldest) (oldest-here w ws ls plan s v t 4 q) (λ z. omega (arith, q .of-kind))) (λ z. omega arith) (λ z. absurd (omega arith));
             born = q .ready .kept .born;
           };
+          spared = spared-collected ws ws′ t (room w ws ls plan s v t 4 q) n v few-here c;
         })
 
     pub stepped-last-argument : Paid plan s → (g : ℕ) → g ≡ calledAt w ws (32 * t) → arityAt w g ≤ n + 1 → (ls₁ ls₂ : List ℕ) → ls₁ ≡ loaded ls ws (argumentsWord (32 * t)) n → ls₂ ≡ appended ls₁ n v
@@ -423,7 +430,7 @@ module _ (w ws ls : List ℕ) (plan : Plan) (s : Registers) (v t : ℕ) (q : Ret
     where
       by : (c : Computed) → o ≡ stepOf (frameFunction ws (32 * t)) (frameNode ws (32 * t)) c → arrive w frame v ≡ result c → Stepped w ws ls plan s ws ls o
       by (Is z) e a = absurd (not z e)
-      by (Fails i) e a = rw e (record { same = returned w ws ls plan s v t 1 q ∙ fails w ws ls plan s v t 1 q paid frame i a; kept = tt })
+      by (Fails i) e a = rw e (record { same = returned w ws ls plan s v t 1 q ∙ fails w ws ls plan s v t 1 q paid frame i a; kept = tt; spared = spared-same ws })
 
   pub stepped-resumed : Paid plan s → (o : Step) → o ≡ operation w ws (32 * t) v → (r : Step) → Resumed s t o r → Stepped w ws ls plan s ws ls r
   stepped-resumed paid o e r (resumes z i u) = rw u (stepped-result paid z (sym i ∙ e) _ refl)
@@ -453,9 +460,9 @@ module _ (w ws ls : List ℕ) (plan : Plan) (s : Registers) (v t kind : ℕ) (q 
 
   pub stepped-dry : kind < 7 → (r : Seat) → r ≡ seatAt ws (32 * t) → (o : Step) → o ≡ halted 20 (r .function) (r .node) → Stepped w ws ls plan s ws ls o
   unfolding resultOf KeptBy
-  stepped-dry h r is o e = rw (e, is) (record { same = returned w ws ls plan s v t kind q ∙ by-kind kind h _ _ _ _; kept = tt })
+  stepped-dry h r is o e = rw (e, is) (record { same = returned w ws ls plan s v t kind q ∙ by-kind kind h _ _ _ _; kept = tt; spared = spared-same ws })
 
 -- NO FRAME LEFT
 pub stepped-done : (w ws ls : List ℕ) (plan : Plan) (s : Registers) (v : ℕ) → s .control ≡ Ret v → s .depth ≡ 0 → Stepped w ws ls plan s ws ls (Value v)
 unfolding move stackOf controlOf resultOf KeptBy
-stepped-done w ws ls plan s v e d = record { same = rw (e, d); kept = tt }
+stepped-done w ws ls plan s v e d = record { same = rw (e, d); kept = tt; spared = spared-same ws }

@@ -59,7 +59,7 @@ few-arguments w table kind f p k n t e =
     omega (arith, t .awaits e, table .contents .entries (aAt w (startOf w f) p) (known .0) .arity)
 
 module _ (w ws ws′ : List ℕ) (table : WellFormed w) (long : length ws′ ≡ length ws) where
-  module _ (b : ℕ) (room : b + 32 ≤ length ws) (word : (i : ℕ) → b ≤ i → i < b + 32 → getD ws i 0 ≡ getD ws′ i 0) (t : FittingAt w ws b) where
+  module _ (b : ℕ) (room : b + 32 ≤ length ws) (word : (i : ℕ) → b ≤ i → i < b + 27 → getD ws i 0 ≡ getD ws′ i 0) (t : FittingAt w ws b) where
     abbrev agree : Agree ws ws′ b
     agree = frames-agree ws ws′ (sym long) b room word
 

@@ -29,10 +29,11 @@ use Rattle.moves.specs.declared.Plan.{Plan}
 use Rattle.moves.specs.declared.Step.{Step}
 use Rattle.moves.specs.declared.Step.the-variants.{Go}
 use Rattle.moves.specs.Layout.{slotOf, slotAt, stackOf, controlOf, runCountsOf, stateOf, resultOf, ticked, oldestWith, halted}
-use Rattle.moves.specs.Ready.{Stands, Fitting, Held, Controlled, Oldest, Kept, Ready, KeptBy, Stepped, Framed, transited, Opened, dry, opens, Forked, forks, OpenedBoth, born, plain}
+use Rattle.moves.specs.Ready.{Stands, Fitting, Held, Controlled, Oldest, Kept, Ready, KeptBy, Spared, Stepped, Framed, transited, Opened, dry, opens, Forked, forks, OpenedBoth, born, plain}
 use Rattle.moves.proofs.Nodes.{start-inside, start-is, inside, local-in, tag-is, arithmetic-in, choose-in, let-in, both-in, argument-first, enter, called-is, callee}
 use Rattle.moves.proofs.Stacks.{length-stack, stack-more, held-more, same-slots}
 use Rattle.moves.proofs.OldestFork.{oldest-other, oldest-with}
+use Rattle.moves.proofs.Sparing.{spared-same, spared-pushed}
 
 below-cap : (n d : ℕ) → d < n / 32 → n / 32 ≤ 4096 → (32 * d + 32 ≤ n) × (d < 4096)
 below-cap n d h g = omega arith
@@ -101,13 +102,13 @@ module _ (w ws ls : List ℕ) (plan : Plan) (s : Registers) (r : Ready w ws ls p
         → move K (language w) (plan .fuel .0) cap (plan .birth) (stateOf w (plan .tau) ws ls s) ≡ ended (stop i (place code)) (s .span .0) (runCountsOf s)
         → Stepped w ws ls plan s ws ls o
     unfolding resultOf KeptBy
-    stopped i o u x = rw u (record { same = x; kept = tt })
+    stopped i o u x = rw u (record { same = x; kept = tt; spared = spared-same ws })
 
     -- no frame is opened
     stepped-transit : (c : Control) (o : Step) → next w code (nodeAt w (startOf w f) p) ≡ go-on (controlOf c ls) → Controlled w c → o ≡ transited plan s (record { function = f; node = p; count = k }) c
         → Stepped w ws ls plan s ws ls o
     unfolding evaluated with-fuel resultOf KeptBy
-    stepped-transit c o n h u = rw u (record { same = evaluates ∙ rw n (same (ltb (s .transitions) (plan .fuel .0))); kept = keeps (ltb (s .transitions) (plan .fuel .0)) })
+    stepped-transit c o n h u = rw u (record { same = evaluates ∙ rw n (same (ltb (s .transitions) (plan .fuel .0))); kept = keeps (ltb (s .transitions) (plan .fuel .0)); spared = spared-same ws })
       where
         same : (b : Bool) → cond b (ongoing (after-transition K (language w) (controlOf c ls) (stackOf ws (s .depth)) (s .credits .0) (s .span .0) (runCountsOf s))) (ended (stop 20 (place code)) (s .span .0) (runCountsOf s))
             ≡ resultOf w (plan .tau) ws ls s (cond b (Go (ticked s c (s .depth) (s .oldest))) (halted 20 f p))
@@ -136,6 +137,9 @@ module _ (w ws ls : List ℕ) (plan : Plan) (s : Registers) (r : Ready w ws ls p
     opened : (ws′ : List ℕ) (kind g : ℕ) → s .depth < cap → ws′ ≡ pushed ws (32 * s .depth) kind f p k ls g → Pushed ws ws′ (32 * s .depth) kind f p k ls g
     opened ws′ kind g h e = is-pushed ws ws′ (32 * s .depth) (below-cap (length ws) (s .depth) h (r .limits .frames) .0) kind f p k ls g (here .few) (r .kept .sixteen) e
 
+    opened-spares : (ws′ : List ℕ) (kind g : ℕ) → s .depth < cap → ws′ ≡ pushed ws (32 * s .depth) kind f p k ls g → Spared ws ws′
+    opened-spares ws′ kind g h e = spared-pushed ws ws′ (s .depth) (below-cap (length ws) (s .depth) h (r .limits .frames) .0) kind f p k ls g (here .few) (r .kept .sixteen) e
+
     module _ (ws′ : List ℕ) (long : length ws′ ≡ length ws) (kind g o′ : ℕ) (h : s .depth < cap) (u : Pushed ws ws′ (32 * s .depth) kind f p k ls g)
         (ok : Fitting w kind f p k 0) (child : Stands w f (p + 1) k) (old : Oldest ws′ (s .depth + 1) o′) (bo : plan .birth ≡ true → o′ ≡ 4096) where
       below : (stackOf ws (s .depth) ≡ stackOf ws′ (s .depth)) × Held w ws′ (s .depth)
@@ -161,8 +165,8 @@ module _ (w ws ls : List ℕ) (plan : Plan) (s : Registers) (r : Ready w ws ls p
         → next w code (nodeAt w (startOf w f) p) ≡ open-frame fr (first code) → Fitting w kind f p k 0 → Stands w f (p + 1) k
         → (o : Step) → Opened ws ws′ ls plan s (record { function = f; node = p; count = k }) kind (s .oldest) o → Stepped w ws ls plan s ws′ ls o
     unfolding evaluated with-fuel with-frame resultOf KeptBy controlOf
-    stepped-frame ws′ long kind small fr q n ok child o (dry h c d) = rw (c, d) (record { same = evaluates ∙ rw (n, le-ltb _ _ h); kept = tt })
-    stepped-frame ws′ long kind small fr q n ok child o (Opened.full h i c d) = rw (c, d) (record { same = evaluates ∙ rw (n, lt-ltb _ _ h, length-stack ws (s .depth), le-ltb _ _ i); kept = tt })
+    stepped-frame ws′ long kind small fr q n ok child o (dry h c d) = rw (c, d) (record { same = evaluates ∙ rw (n, le-ltb _ _ h); kept = tt; spared = spared-same ws })
+    stepped-frame ws′ long kind small fr q n ok child o (Opened.full h i c d) = rw (c, d) (record { same = evaluates ∙ rw (n, lt-ltb _ _ h, length-stack ws (s .depth), le-ltb _ _ i); kept = tt; spared = spared-same ws })
     stepped-frame ws′ long kind small fr q n ok child o (opens h i e d) =
         let u = opened ws′ kind 0 i e in
         let low : s .depth < 4096 = below-cap (length ws) (s .depth) i (r .limits .frames) .1 in
@@ -170,6 +174,7 @@ module _ (w ws ls : List ℕ) (plan : Plan) (s : Registers) (r : Ready w ws ls p
         rw d (record {
           same = evaluates ∙ rw (n, lt-ltb _ _ h, length-stack ws (s .depth), lt-ltb _ _ i, pushed-stack ws′ long kind 0 (s .oldest) i u ok child old (r .kept .born) (ordinary fr) (q _));
           kept = pushed-kept ws′ long kind 0 (s .oldest) i u ok child old (r .kept .born);
+          spared = opened-spares ws′ kind 0 i e;
         })
 
     module _ (ws′ : List ℕ) (long : length ws′ ≡ length ws) (o : Step) where
@@ -204,7 +209,7 @@ module _ (w ws ls : List ℕ) (plan : Plan) (s : Registers) (r : Ready w ws ls p
 
       pub stepped-both : (b c : ℕ) → nodeAt w (startOf w f) p ≡ Both b c → OpenedBoth ws ws′ ls plan s (record { function = f; node = p; count = k }) o → Stepped w ws ls plan s ws′ ls o
       unfolding next slotOf tagFor evaluated with-fuel with-frame resultOf KeptBy controlOf
-      stepped-both b c n (born x (Forked.full h q d)) = rw (q, d) (record { same = evaluates ∙ rw (n, x, length-stack ws (s .depth), le-ltb _ _ h); kept = tt })
+      stepped-both b c n (born x (Forked.full h q d)) = rw (q, d) (record { same = evaluates ∙ rw (n, x, length-stack ws (s .depth), le-ltb _ _ h); kept = tt; spared = spared-same ws })
       stepped-both b c n (born x (forks h e d)) =
           let u = opened ws′ 7 (s .span .0) h e in
           let t : tagAt w (startOf w f) p ≡ 6 = tag-is w (r .kept .table) here ∙ ap tagFor n in
@@ -215,9 +220,10 @@ module _ (w ws ls : List ℕ) (plan : Plan) (s : Registers) (r : Ready w ws ls p
           rw d (record {
             same = evaluates ∙ rw (n, x, length-stack ws (s .depth), lt-ltb _ _ h, pushed-stack ws′ long 7 (s .span .0) (s .oldest) h u ok child old (r .kept .born) (promoted-left (s .span .0) code) refl);
             kept = pushed-kept ws′ long 7 (s .span .0) (s .oldest) h u ok child old (r .kept .born);
+            spared = opened-spares ws′ 7 (s .span .0) h e;
           })
-      stepped-both b c n (plain x (dry h q d)) = rw (q, d) (record { same = evaluates ∙ rw (n, x, le-ltb _ _ h); kept = tt })
-      stepped-both b c n (plain x (Opened.full h i q d)) = rw (q, d) (record { same = evaluates ∙ rw (n, x, lt-ltb _ _ h, length-stack ws (s .depth), le-ltb _ _ i); kept = tt })
+      stepped-both b c n (plain x (dry h q d)) = rw (q, d) (record { same = evaluates ∙ rw (n, x, le-ltb _ _ h); kept = tt; spared = spared-same ws })
+      stepped-both b c n (plain x (Opened.full h i q d)) = rw (q, d) (record { same = evaluates ∙ rw (n, x, lt-ltb _ _ h, length-stack ws (s .depth), le-ltb _ _ i); kept = tt; spared = spared-same ws })
       stepped-both b c n (plain x (opens h i e d)) =
           let u = opened ws′ 5 0 i e in
           let t : tagAt w (startOf w f) p ≡ 6 = tag-is w (r .kept .table) here ∙ ap tagFor n in
@@ -229,4 +235,5 @@ module _ (w ws ls : List ℕ) (plan : Plan) (s : Registers) (r : Ready w ws ls p
           rw d (record {
             same = evaluates ∙ rw (n, x, lt-ltb _ _ h, length-stack ws (s .depth), lt-ltb _ _ i, pushed-stack ws′ long 5 0 o′ i u ok child old bo (plain-left code) refl);
             kept = pushed-kept ws′ long 5 0 o′ i u ok child old bo;
+            spared = opened-spares ws′ 5 0 i e;
           })

@@ -16,7 +16,7 @@ use Rattle.table.specs.declared.Node.the-variants.{Constant, Local, Arithmetic,
 use Rattle.arithmetic.specs.declared.Computed.{Computed}
 use Rattle.arithmetic.specs.declared.Computed.the-variants.{Is, Fails}
 use Rattle.arithmetic.specs.Operate.{computed}
-use Rattle.frames.specs.Frames.{localsWord, frameKind, frameFunction, frameNode, frameCount, frameValue, pushed, marked, loaded, appended}
+use Rattle.frames.specs.Frames.{localsWord, frameKind, frameFunction, frameNode, frameCount, frameValue, framePlace, frameRight, pushed, marked, loaded, appended}
 use Rattle.moves.specs.declared.Control.{Control}
 use Rattle.moves.specs.declared.Control.the-variants.{Eval, Ret}
 use Rattle.moves.specs.declared.Registers.{Registers}
@@ -94,15 +94,21 @@ KeptBy w ws ls birth (Go s) = Kept w ws ls birth (s .control) (s .depth) (s .old
 KeptBy w ws ls birth (Value v) = Unit {0}
 KeptBy w ws ls birth (Halt h) = Unit {0}
 
+-- the places that forks keep (document 02, P1) are as they were, in every frame: no move looks at them or writes them
+abbrev pub Spared : List ℕ → List ℕ → Type 0
+Spared ws ws′ = (j : ℕ) → (framePlace ws′ (32 * j) ≡ framePlace ws (32 * j)) × (frameRight ws′ (32 * j) ≡ frameRight ws (32 * j))
+
 -- WHAT A MOVE TELLS: the flat machine's move of the state that the words held is what they hold now
 pub record Stepped (w ws ls : List ℕ) (plan : Plan) (s : Registers) (ws′ ls′ : List ℕ) (r : Step) : Type 0 where
   pub same : move (spans (plan .tau)) (language w) (plan .fuel .0) (length ws / 32) (plan .birth) (stateOf w (plan .tau) ws ls s) ≡ resultOf w (plan .tau) ws′ ls′ s r
   pub kept : KeptBy w ws′ ls′ (plan .birth) r
+  pub spared : Spared ws ws′
 
 -- and with the promotion that may be due
 pub record Advanced (w ws ls : List ℕ) (plan : Plan) (s : Registers) (ws′ ls′ : List ℕ) (r : Step) : Type 0 where
   pub same : step-by (spans (plan .tau)) (language w) (plan .fuel .0) (length ws / 32) (plan .birth) (plan .period) (stateOf w (plan .tau) ws ls s) ≡ resultOf w (plan .tau) ws′ ls′ s r
   pub kept : KeptBy w ws′ ls′ (plan .birth) r
+  pub spared : Spared ws ws′
 
 -- a value returns to the frame at `top`, of a kind
 pub record Returns (w ws ls : List ℕ) (plan : Plan) (s : Registers) (v top kind : ℕ) : Type 0 where
