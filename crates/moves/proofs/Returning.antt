@@ -80,13 +80,13 @@ module _ (w ws ls : List ℕ) (plan : Plan) (s : Registers) (v t kind : ℕ) (q 
   sitting-collected n few ws′ long e = let u = is-collected ws ws′ (32 * t) room n v few e in record { table = r .kept .table; room = omega (arith, room); sixteen = r .kept .sixteen; stands = rw (u .is-function, u .is-node, u .is-count) (top .stands) }
 
   -- the move, by the slot that the words hold
-  abbrev from : Slot ℕ Frame Code → Result K (language w)
+  abbrev pub from : Slot ℕ Frame Code → Result K (language w)
   from x = move K (language w) (plan .fuel .0) cap (plan .birth) (state (return v) (x ∷ stackOf ws t) (s .credits .0) (s .span .0) (runCountsOf s))
 
   slot-is : slotAt ws (32 * t) ≡ slotOf kind code (frameValue ws (32 * t)) (frameArguments ws (32 * t)) (frameBefore ws (32 * t)) (frameLeft ws (32 * t))
   slot-is = rw (q .of-kind)
 
-  returned : move K (language w) (plan .fuel .0) cap (plan .birth) (stateOf w (plan .tau) ws ls s)
+  pub returned : move K (language w) (plan .fuel .0) cap (plan .birth) (stateOf w (plan .tau) ws ls s)
       ≡ from (slotOf kind code (frameValue ws (32 * t)) (frameArguments ws (32 * t)) (frameBefore ws (32 * t)) (frameLeft ws (32 * t)))
   unfolding controlOf
   returned = rw (q .is, q .depth, ← stack-more ws t, slot-is)

@@ -28,7 +28,7 @@ use Rattle.moves.proofs.Steps.{stepped-enter, stepped-call}
 use Rattle.compact.specs.declared.Compact.{Compact}
 use Rattle.compact.specs.declared.Progress.{Progress}
 use Rattle.compact.specs.declared.Progress.the-variants.{Go}
-use Rattle.compact.specs.Compact.{full, stepOf, Paced, PacedBy, laterOf, Roomy}
+use Rattle.compact.specs.Compact.{full, stepOf, Paced, PacedBy, Transits, laterOf, Roomy}
 use Rattle.operands.specs.Operands.{costAt, framesOf, bothOf, simpleAt, SimpleAt, CostAt}
 use Rattle.strides.specs.Strides.{Strides, one, Tagged, Evaluating, codeOf, Jump, Jumps}
 use Rattle.operands.proofs.Leading.{call-one-leads, call-two-leads, call-three-leads}
@@ -179,13 +179,13 @@ module _ {w ws ls : List ℕ} {plan : Plan} {g : Compact} {seat : Seat} {start a
   unfolding nodeOf
   node-is = rw (tag (tagged-here v) called, f-is (tagged-here v) called)
 
-  pub call-enters : arityAt w f ≡ 0 → (r : Progress) → (stepOf r ≡ transited plan (full g) seat (Eval f 0 0)) × PacedBy plan r → Strides w ws ls plan g ws ls r
+  pub call-enters : arityAt w f ≡ 0 → (r : Progress) → (stepOf r ≡ transited plan (full g) seat (Eval f 0 0)) × PacedBy plan r × Transits g r → Strides w ws ls plan g ws ls r
   call-enters n r o =
       let m = stepped-enter w ws ls plan (full g) (v .calm .starts .ready) (seat .function) (seat .node) (seat .count) (v .is) f _ _ (stepOf r) node-is n (o .0) in
-      one-strides w ws ls plan g seat start at 5 v ws ls r m (o .1)
+      one-strides w ws ls plan g seat start at 5 v ws ls r m (o .1, o .2)
 
   pub call-opens : 0 < arityAt w f → {ws′ ls′ : List ℕ} → length ws′ ≡ length ws → ls′ ≡ ls → (r : Progress)
-      → Opened ws ws′ ls′ plan (full g) seat 4 (g .oldest) (stepOf r) × PacedBy plan r → Strides w ws ls plan g ws′ ls′ r
+      → Opened ws ws′ ls′ plan (full g) seat 4 (g .oldest) (stepOf r) × PacedBy plan r × Transits g r → Strides w ws ls plan g ws′ ls′ r
   call-opens n {ws′} long e r o =
       let m = stepped-call w ws ls plan (full g) (v .calm .starts .ready) (seat .function) (seat .node) (seat .count) (v .is) ws′ long (stepOf r) f _ _ node-is (λ z. omega arith) (rw e at (o .0)) in
-      rw e (one-strides w ws ls plan g seat start at 5 v ws′ ls r m (o .1))
+      rw e (one-strides w ws ls plan g seat start at 5 v ws′ ls r m (o .1, o .2))

@@ -35,15 +35,16 @@ use Rattle.moves.proofs.Nodes.{start-is, inside, known, tag-is, arithmetic-in, 
 use Rattle.moves.proofs.Stacks.{length-stack, stack-more, held-more, held-top, same-slots}
 use Rattle.moves.proofs.OldestFork.{oldest-other, oldest-under}
 use Rattle.moves.proofs.Promotion.{due-is}
+use Rattle.moves.proofs.Sparing.{spared-same, spared-turned, spared-pushed}
 use Rattle.moves.proofs.Steps.{start-read, node-read, stepped-arithmetic, stepped-choose, stepped-let}
 use Rattle.moves.proofs.Returning.{room, stepped-done}
 use Rattle.moves.proofs.Returning.{top as frame-top, tag-here as frame-tag}
 use Rattle.compact.specs.declared.Compact.{Compact}
 use Rattle.compact.specs.declared.Progress.{Progress}
-use Rattle.compact.specs.declared.Progress.the-variants.{Go, Value, Halt}
-use Rattle.compact.specs.Compact.{full, stepOf, Paced, PacedBy, settledOf, Settles, laterOf, Roomy}
-use Rattle.strides.specs.Strides.{Many, one, many, Strides, Starts, Calm, Tagged, Evaluating, codeOf, Jump, Jumps, Half, Paired, whole, half, Rebound, Rebounds, Returning}
-use Rattle.strides.proofs.Settling.{small, move-advances, move-settles, move-strides, kept-strides, returning-returns, site-tag, site-stands, site-framed}
+use Rattle.compact.specs.declared.Progress.the-variants.{Go, Free, Value, Halt}
+use Rattle.compact.specs.Compact.{full, stepOf, Paced, PacedBy, settledOf, Settles, Transits, laterOf, Roomy}
+use Rattle.strides.specs.Strides.{Many, one, many, Strides, Starts, Calm, Tagged, Evaluating, codeOf, Jump, Jumps, Half, Paired, whole, half, Rebound, Rebounds, Returning, Marks}
+use Rattle.strides.proofs.Settling.{small, move-advances, move-settles, move-strides, paid-rises, kept-strides, returning-returns, site-tag, site-stands, site-framed}
 
 module _ (w ws ls : List ℕ) (plan : Plan) (g : Compact) (s : Starts w ws ls plan g) where
   abbrev K : CostAlgebra
@@ -71,11 +72,12 @@ module _ (w ws ls : List ℕ) (plan : Plan) (g : Compact) (s : Starts w ws ls pl
       rw (transits-span (plan .tau) k (full g .span .0), a, b, e, x, y, raise-within (g .deepest) (g .depth) h (m .within))
 
   -- the registers then
-  many-strides : (to : Control) (d k : ℕ) (ws′ ls′ : List ℕ) (next : Compact) → next ≡ laterOf g to d k → Many w ws ls plan (full g) ws′ ls′ (full (laterOf g to d k))
-      → Strides w ws ls plan g ws′ ls′ (Go next)
-  unfolding stepOf PacedBy
-  many-strides to d k ws′ ls′ next e m = rw e (record {
-    strode = many (full (laterOf g to d k)) refl m;
+  many-strides : (to : Control) (d k : ℕ) (ws′ ls′ : List ℕ) (next : Compact) → next ≡ laterOf g to d k → (m : Many w ws ls plan (full g) ws′ ls′ (full (laterOf g to d k)))
+      → k ≡ m .more + 1 → Strides w ws ls plan g ws′ ls′ (Go next)
+  unfolding stepOf PacedBy Marks
+  many-strides to d k ws′ ls′ next e m n = rw e (record {
+    strode = many (full (laterOf g to d k)) refl m (omega arith);
+    marks = omega arith;
     paced = record { since = omega (arith, s .paced .since); fuel = s .paced .fuel; calm = s .paced .calm };
   })
 
@@ -100,7 +102,8 @@ module _ (w ws ls : List ℕ) (plan : Plan) (g : Compact) (s : Starts w ws ls pl
             oldest = s .ready .kept .oldest;
             born = s .ready .kept .born;
           };
-        })
+          spared = spared-same ws;
+        }) refl
 
     here : Stands w (seat .function) (seat .node) (seat .count)
     unfolding Controlled
@@ -143,7 +146,11 @@ module _ (w ws ls : List ℕ) (plan : Plan) (g : Compact) (s : Starts w ws ls pl
             oldest = oldest-other ws ws′ d (sym (u .below ∙ p .below)) (g .oldest) (omega (arith, s .ready .limits .frames)) (kept .oldest) (λ y. omega (arith, u .is-kind)) (λ y. absurd (omega (arith, u .is-kind)));
             born = kept .born;
           };
-        })
+          spared = λ i. (
+            spared-turned ws₁ ws′ d (omega (arith, p .long)) 1 (j .left) 0 (j .words) i .0 ∙ spared-pushed ws ws₁ d room 1 (seat .function) (seat .node) (seat .count) ls 0 (here .few) (kept .sixteen) refl i .0,
+            spared-turned ws₁ ws′ d (omega (arith, p .long)) 1 (j .left) 0 (j .words) i .1 ∙ spared-pushed ws ws₁ d room 1 (seat .function) (seat .node) (seat .count) ls 0 (here .few) (kept .sixteen) refl i .1,
+          );
+        }) (sym two)
 
   -- a value
   module _ (v top : ℕ) (e : g .control ≡ Ret v) (d : g .depth ≡ top + 1) (k : frameKind ws (32 * top) ≡ 0) where
@@ -171,16 +178,19 @@ module _ (w ws ls : List ℕ) (plan : Plan) (g : Compact) (s : Starts w ws ls pl
             oldest = oldest-under ws top (g .oldest) (rw d at (s .ready .kept .oldest)) (λ z. omega (arith, k));
             born = s .ready .kept .born;
           };
-        })
+          spared = spared-same ws;
+        }) refl
 
 -- A STRIDE THAT IS NONE: the variant is not Go
-pub neither : (_≡_ {A = ℕ} 0 1) ⊎ (_≡_ {A = ℕ} 0 2) → ⊥
+pub neither : (_≡_ {A = ℕ} 0 1) ⊎ ((_≡_ {A = ℕ} 0 2) ⊎ (_≡_ {A = ℕ} 0 3)) → ⊥
 neither (inl e) = absurd (omega arith)
-neither (inr e) = absurd (omega arith)
+neither (inr (inl e)) = absurd (omega arith)
+neither (inr (inr e)) = absurd (omega arith)
 
 pub jumps-none : (w ls : List ℕ) (g : Compact) (seat : Seat) (ls′ : List ℕ) (r : Progress) → Jumps w ls g seat ls′ r → ((next : Compact) → r ≡ Go next → ⊥) → ls′ ≡ ls
 unfolding Jumps
 jumps-none w ls g seat ls′ (Go next) j n = absurd (n next refl)
+jumps-none w ls g seat ls′ (Free next event) j n = j
 jumps-none w ls g seat ls′ (Value v) j n = j
 jumps-none w ls g seat ls′ (Halt h) j n = j
 
@@ -208,8 +218,8 @@ module _ (w ws ls : List ℕ) (plan : Plan) (g : Compact) (seat : Seat) (start a
   jumps-strides ls′ r next e j = jump-strides w ws ls plan g set-out seat (v .is) ls′ next (rw e at j)
 
   -- by one step
-  pub one-strides : (ws′ ls′ : List ℕ) (r : Progress) → Stepped w ws ls plan (full g) ws′ ls′ (stepOf r) → PacedBy plan r → Strides w ws ls plan g ws′ ls′ r
-  one-strides ws′ ls′ r m p = kept-strides w ws ls plan g (v .calm) ws′ ls′ (stepOf r) m r refl p
+  pub one-strides : (ws′ ls′ : List ℕ) (r : Progress) → Stepped w ws ls plan (full g) ws′ ls′ (stepOf r) → PacedBy plan r × Transits g r → Strides w ws ls plan g ws′ ls′ r
+  one-strides ws′ ls′ r m p = kept-strides w ws ls plan g (v .calm) ws′ ls′ (stepOf r) m r refl (p .0) (p .1)
 
 module _ (w ws ls : List ℕ) (plan : Plan) (g : Compact) (seat : Seat) (start at : ℕ) where
   pub paired-strides : Evaluating w ws ls plan g seat start at 2 → (ws′ : List ℕ) (r : Progress) (next : Compact) → r ≡ Go next → Paired w ws ls g seat ws′ r → Strides w ws ls plan g ws′ ls (Go next)
@@ -218,27 +228,27 @@ module _ (w ws ls : List ℕ) (plan : Plan) (g : Compact) (seat : Seat) (start a
   paired-strides v ws′ r next e (Paired.neither n i) = absurd (n next e)
 
   pub opened-arithmetic : Evaluating w ws ls plan g seat start at 2 → (ws₁ ws′ : List ℕ) → ws₁ ≡ ws → length ws′ ≡ length ws₁ → (r : Progress)
-      → (Opened ws₁ ws′ ls plan (full g) seat 0 (g .oldest) (stepOf r)) × (PacedBy plan r) → Strides w ws ls plan g ws′ ls r
+      → (Opened ws₁ ws′ ls plan (full g) seat 0 (g .oldest) (stepOf r)) × (PacedBy plan r) × (Transits g r) → Strides w ws ls plan g ws′ ls r
   opened-arithmetic v ws₁ ws′ x long r u =
       let o = operation-in w (v .calm .starts .ready .kept .table) (site-stands v) (site-tag v) in
       one-strides w ws ls plan g seat start at 2 v ws′ ls r
-      (stepped-arithmetic w ws ls plan (full g) (v .calm .starts .ready) (seat .function) (seat .node) (seat .count) (v .is) ws′ (rw x at long) (stepOf r) (o .0) _ (o .1) (rw x at (u .0))) (u .1)
+      (stepped-arithmetic w ws ls plan (full g) (v .calm .starts .ready) (seat .function) (seat .node) (seat .count) (v .is) ws′ (rw x at long) (stepOf r) (o .0) _ (o .1) (rw x at (u .0))) (u .1, u .2)
 
   pub opened-choose : Evaluating w ws ls plan g seat start at 3 → (ws′ : List ℕ) → length ws′ ≡ length ws → (r : Progress)
-      → (Opened ws ws′ ls plan (full g) seat 2 (g .oldest) (stepOf r)) × (PacedBy plan r) → Strides w ws ls plan g ws′ ls r
+      → (Opened ws ws′ ls plan (full g) seat 2 (g .oldest) (stepOf r)) × (PacedBy plan r) × (Transits g r) → Strides w ws ls plan g ws′ ls r
   unfolding nodeOf
   opened-choose v ws′ long r u =
       one-strides w ws ls plan g seat start at 3 v ws′ ls r
       (stepped-choose w ws ls plan (full g) (v .calm .starts .ready) (seat .function) (seat .node) (seat .count) (v .is) ws′ long (stepOf r)
-      (bAt w (startOf w (seat .function)) (seat .node)) (cAt w (startOf w (seat .function)) (seat .node)) (rw (site-tag v)) (u .0)) (u .1)
+      (bAt w (startOf w (seat .function)) (seat .node)) (cAt w (startOf w (seat .function)) (seat .node)) (rw (site-tag v)) (u .0)) (u .1, u .2)
 
   pub opened-let : Evaluating w ws ls plan g seat start at 4 → (ls₁ ws′ : List ℕ) → ls₁ ≡ ls → length ws′ ≡ length ws → (r : Progress)
-      → (Opened ws ws′ ls₁ plan (full g) seat 3 (g .oldest) (stepOf r)) × (PacedBy plan r) → Strides w ws ls plan g ws′ ls₁ r
+      → (Opened ws ws′ ls₁ plan (full g) seat 3 (g .oldest) (stepOf r)) × (PacedBy plan r) × (Transits g r) → Strides w ws ls plan g ws′ ls₁ r
   unfolding nodeOf
   opened-let v ls₁ ws′ x long r u =
       rw x (one-strides w ws ls plan g seat start at 4 v ws′ ls r
       (stepped-let w ws ls plan (full g) (v .calm .starts .ready) (seat .function) (seat .node) (seat .count) (v .is) ws′ long (stepOf r)
-      (bAt w (startOf w (seat .function)) (seat .node)) (rw (site-tag v)) (rw x at (u .0))) (u .1))
+      (bAt w (startOf w (seat .function)) (seat .node)) (rw (site-tag v)) (rw x at (u .0))) (u .1, u .2))
 
 -- the node's word, through the array of starts
 tag-low : (n : Node) → (n ≡ Unknown → ⊥) → tagFor n < 7
@@ -291,8 +301,13 @@ module _ (w ws ls : List ℕ) (plan : Plan) (g : Compact) (c : Calm w ws ls plan
   pub settles : Settles plan o
   settles = move-settles w ws ls plan g c ws′ ls′ o (rw e at m)
 
-  pub strides : (r : Progress) → r ≡ settledOf plan o → Strides w ws ls plan g ws′ ls′ r
-  strides r u = move-strides w ws ls plan g c ws′ ls′ o (rw e at m) r u
+
+-- to a frame that is not promoted
+pub paid-strides : (w ws ls : List ℕ) (plan : Plan) (g : Compact) (v top kind : ℕ) (q : Returning w ws ls plan g v top kind) → kind < 7 → (s : Registers) → s ≡ full g
+    → (ws′ ls′ : List ℕ) (o : Step) → Stepped w ws ls plan s ws′ ls′ o → (r : Progress) → r ≡ settledOf plan o → Strides w ws ls plan g ws′ ls′ r
+paid-strides w ws ls plan g v top kind q low s e ws′ ls′ o m r u =
+    let n : Stepped w ws ls plan (full g) ws′ ls′ o = rw e at m in
+    move-strides w ws ls plan g (q .calm) ws′ ls′ o n (paid-rises w ws ls plan (full g) v top kind (returning-returns q refl) low ws′ ls′ o n) r u
 
 -- A VALUE RETURNS
 module _ (w ws ls : List ℕ) (plan : Plan) (g : Compact) (v top kind : ℕ) (q : Returning w ws ls plan g v top kind) where
@@ -320,5 +335,5 @@ module _ (w ws ls : List ℕ) (plan : Plan) (g : Compact) (v top : ℕ) (q : Ret
 
 -- NO FRAME LEFT
 pub done-strides : (w ws ls : List ℕ) (plan : Plan) (g : Compact) → Calm w ws ls plan g → (v : ℕ) → g .control ≡ Ret v → g .depth ≡ 0 → Strides w ws ls plan g ws ls (Value v)
-unfolding stepOf PacedBy
-done-strides w ws ls plan g c v e d = record { strode = one (move-advances w ws ls plan g c ws ls (step.Value v) (stepped-done w ws ls plan (full g) v e d)); paced = tt }
+unfolding stepOf PacedBy Marks
+done-strides w ws ls plan g c v e d = record { strode = one (move-advances w ws ls plan g c ws ls (step.Value v) (stepped-done w ws ls plan (full g) v e d)); paced = tt; marks = tt }

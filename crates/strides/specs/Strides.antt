@@ -1,7 +1,7 @@
 -- What a stride tells: it is one step of the definition, or several at once. And what the functions under it tell.
 use Prim.Native.Nat.{ℕ, _+_, _*_, _/_, _≤_, _<_}
 use mathlib.Core.Path.{_≡_}
-use mathlib.Core.Bool.{false, _&&_}
+use mathlib.Core.Bool.{true, false, _&&_}
 use mathlib.Core.List.{List}
 use lib.ListN.{length, getD, take}
 use lib.Dec.{ltb, leb}
@@ -23,10 +23,12 @@ use Rattle.frames.specs.declared.Seat.{Seat}
 use Rattle.moves.specs.declared.Step.{Step}
 use Rattle.moves.specs.declared.Step.the-variants as step
 use Rattle.moves.specs.Layout.{codeAt, controlOf, stateOf}
-use Rattle.moves.specs.Ready.{Stands, Controlled, Kept, Ready, Advanced}
+use Rattle.moves.specs.Ready.{Stands, Controlled, Kept, Ready, Spared, Advanced}
 use Rattle.compact.specs.declared.Compact.{Compact}
 use Rattle.compact.specs.declared.Progress.{Progress}
-use Rattle.compact.specs.declared.Progress.the-variants.{Go, Value, Halt}
+use Rattle.compact.specs.declared.Event.{Event}
+use Rattle.compact.specs.declared.Event.the-variants.{Fork, Turn, Join}
+use Rattle.compact.specs.declared.Progress.the-variants.{Go, Free, Value, Halt}
 use Rattle.compact.specs.Compact.{full, stepOf, Paced, PacedBy, laterOf, Small, Roomy}
 use Rattle.operands.specs.Operands.{framesOf}
 
@@ -35,16 +37,13 @@ pub record Many (w ws ls : List ℕ) (plan : Plan) (s : Registers) (ws′ ls′ 
   pub more : ℕ
   pub same : run (step-by (spans (plan .tau)) (language w) (plan .fuel .0) (length ws / 32) (plan .birth) (plan .period)) (more + 1) (stateOf w (plan .tau) ws ls s) ≡ ongoing (stateOf w (plan .tau) ws′ ls′ next)
   pub kept : Kept w ws′ ls′ (plan .birth) (next .control) (next .depth) (next .oldest)
+  pub spared : Spared ws ws′
 
--- A STRIDE: one step, or several
+-- A STRIDE: one step, or several, each of which is a transition
 pub data Strode (w ws ls : List ℕ) (plan : Plan) (s : Registers) (ws′ ls′ : List ℕ) (r : Step) : Type 0 where
   one : Advanced w ws ls plan s ws′ ls′ r → Strode w ws ls plan s ws′ ls′ r
-  many : (next : Registers) → r ≡ step.Go next → Many w ws ls plan s ws′ ls′ next → Strode w ws ls plan s ws′ ls′ r
-
--- by compact registers
-pub record Strides (w ws ls : List ℕ) (plan : Plan) (g : Compact) (ws′ ls′ : List ℕ) (r : Progress) : Type 0 where
-  pub strode : Strode w ws ls plan (full g) ws′ ls′ (stepOf r)
-  pub paced : PacedBy plan r
+  many : (next : Registers) → r ≡ step.Go next → (m : Many w ws ls plan s ws′ ls′ next) → next .transitions ≡ s .transitions + (m .more + 1)
+      → Strode w ws ls plan s ws′ ls′ r
 
 -- what a stride starts from
 pub record Starts (w ws ls : List ℕ) (plan : Plan) (g : Compact) : Type 0 where
@@ -55,6 +54,37 @@ pub record Starts (w ws ls : List ℕ) (plan : Plan) (g : Compact) : Type 0 wher
 pub record Calm (w ws ls : List ℕ) (plan : Plan) (g : Compact) : Type 0 where
   pub starts : Starts w ws ls plan g
   pub not-due : (leb (plan .period) (full g .credits .0) && ltb (g .oldest) (g .depth)) ≡ false
+
+-- a value returns to the frame `top` of a kind
+pub record Returning (w ws ls : List ℕ) (plan : Plan) (g : Compact) (v top kind : ℕ) : Type 0 where
+  pub calm : Calm w ws ls plan g
+  pub is : g .control ≡ Ret v
+  pub depth : g .depth ≡ top + 1
+  pub of-kind : frameKind ws (32 * top) ≡ kind
+
+-- WHICH FREE MOVE a stride was, by its event. A fork begins where a promotion was due, in the oldest plain fork, or in a new frame, promoted at its
+-- birth; its left graph ends where a value arrives at a promoted frame that awaits its left, and both end where one awaits its right.
+pub data Forks (w ws ls : List ℕ) (plan : Plan) (g next : Compact) (at : ℕ) : Type 0 where
+  promoted : (leb (plan .period) (full g .credits .0) && ltb (g .oldest) (g .depth)) ≡ true → at ≡ g .oldest → Forks w ws ls plan g next at
+  born : Calm w ws ls plan g → plan .birth ≡ true → next .forks ≡ g .forks + 1 → at ≡ g .depth → Forks w ws ls plan g next at
+
+unfoldable pub Occurs : (w ws ls : List ℕ) (plan : Plan) (g next : Compact) → Event → Type 0
+Occurs w ws ls plan g next (Fork at) = Forks w ws ls plan g next at
+Occurs w ws ls plan g next (Turn at) = (v : ℕ) × Returning w ws ls plan g v at 7
+Occurs w ws ls plan g next (Join at) = (v : ℕ) × (kind : ℕ) × Returning w ws ls plan g v at kind × (8 ≤ kind)
+
+-- and where it was none, a transition was made
+unfoldable pub Marks : (w ws ls : List ℕ) (plan : Plan) (g : Compact) → Progress → Type 0
+Marks w ws ls plan g (Go next) = g .transitions < next .transitions
+Marks w ws ls plan g (Free next event) = Occurs w ws ls plan g next event
+Marks w ws ls plan g (Value v) = Unit {0}
+Marks w ws ls plan g (Halt h) = Unit {0}
+
+-- A STRIDE by compact registers
+pub record Strides (w ws ls : List ℕ) (plan : Plan) (g : Compact) (ws′ ls′ : List ℕ) (r : Progress) : Type 0 where
+  pub strode : Strode w ws ls plan (full g) ws′ ls′ (stepOf r)
+  pub paced : PacedBy plan r
+  pub marks : Marks w ws ls plan g r
 
 -- A NODE that is evaluated, at the word `at` of the body that begins at `start`
 pub record Site (w ls : List ℕ) (g : Compact) (seat : Seat) (start at : ℕ) : Type 0 where
@@ -94,6 +124,7 @@ pub record Jump (w ls : List ℕ) (g : Compact) (seat : Seat) (ls′ : List ℕ)
 -- or nothing comes of it
 unfoldable pub Jumps : (w ls : List ℕ) (g : Compact) (seat : Seat) (ls′ : List ℕ) → Progress → Type 0
 Jumps w ls g seat ls′ (Go next) = Jump w ls g seat ls′ next
+Jumps w ls g seat ls′ (Free next event) = ls′ ≡ ls
 Jumps w ls g seat ls′ (Value v) = ls′ ≡ ls
 Jumps w ls g seat ls′ (Halt h) = ls′ ≡ ls
 
@@ -132,12 +163,6 @@ pub record Rebound (w ws : List ℕ) (g : Compact) (v top : ℕ) (next : Compact
 
 unfoldable pub Rebounds : (w ws : List ℕ) (g : Compact) (v top : ℕ) → Progress → Type 0
 Rebounds w ws g v top (Go next) = Rebound w ws g v top next
+Rebounds w ws g v top (Free next event) = Unit {0}
 Rebounds w ws g v top (Value x) = Unit {0}
 Rebounds w ws g v top (Halt h) = Unit {0}
-
--- a value returns to the frame `top` of a kind
-pub record Returning (w ws ls : List ℕ) (plan : Plan) (g : Compact) (v top kind : ℕ) : Type 0 where
-  pub calm : Calm w ws ls plan g
-  pub is : g .control ≡ Ret v
-  pub depth : g .depth ≡ top + 1
-  pub of-kind : frameKind ws (32 * top) ≡ kind

@@ -7,6 +7,7 @@
 
 use arithmetic::Computed;
 use compact::Compact;
+use compact::Event;
 use compact::Progress;
 use frames::Seat;
 use moves::Control;
@@ -467,7 +468,12 @@ fn evaluate_both(
     ensures { λ r. ⌜ Strides (now (words .entry)) (now (ws .entry)) (now (locals .entry)) plan g (now (ws .exit)) (now (locals .entry)) r ⌝ }
 {
     let step = moves::evaluate_both(ws, locals, plan, compact::expand(g), seat);
-    compact::settle(plan, step)
+    let next = compact::settle(plan, step);
+    if plan.birth {
+        compact::free(next, Event::Fork(g.depth))
+    } else {
+        next
+    }
 }
 
 // Evaluates a constant or a local.
@@ -644,7 +650,12 @@ fn arrive(
         top,
         kind,
     );
-    compact::settle(plan, step)
+    let next = compact::settle(plan, step);
+    if kind == moves::PROMOTED_LEFT {
+        compact::free(next, Event::Turn(top))
+    } else {
+        compact::free(next, Event::Join(top))
+    }
 }
 
 // A value returns to the newest frame, or ends the run.
@@ -685,7 +696,8 @@ fn promote(words: &[u32], ws: &mut [u64], locals: &[u64], plan: Plan, g: Compact
     ensures { λ r. ⌜ Strides (now (words .entry)) (now (ws .entry)) (now (locals .entry)) plan g (now (ws .exit)) (now (locals .entry)) r ⌝ }
 {
     let s = moves::promote(ws, compact::expand(g));
-    compact::settle(plan, Step::Go(s))
+    let next = compact::settle(plan, Step::Go(s));
+    compact::free(next, Event::Fork(g.oldest))
 }
 
 // One step, or several at once: a promotion that is due, or else any other.

@@ -22,7 +22,7 @@ returns : tie.Need-returns
 returns c =
     let s = c .before .before .before .before .before in
     let u = rw (c .before .leaf .ensures) at (c .transit .ensures .0) in
-    kept-strides (s .args .words .now) (s .args .ws .now) (s .args .locals .now) (s .args .plan) (s .args .g) (s .pre .0 .calm) _ _ _ (leaf-stepped (s .pre .0) (s .pre .1) u) _ refl (c .transit .ensures .1)
+    kept-strides (s .args .words .now) (s .args .ws .now) (s .args .locals .now) (s .args .plan) (s .args .g) (s .pre .0 .calm) _ _ _ (leaf-stepped (s .pre .0) (s .pre .1) u) _ refl (c .transit .ensures .1) (c .transit .ensures .2)
 
 pub evaluate-leaf-spec : {M : Type 1} → statement M
 evaluate-leaf-spec = tie.close (tie.spec leaf-requires transit-requires returns)

@@ -1,5 +1,6 @@
 -- `strides::ret` meets its contract, by the laws of Striding, Settling.
-use mathlib.Core.Path.{sym, _∙_}
+use Prim.Native.Nat.{ℕ}
+use mathlib.Core.Path.{_≡_, sym, _∙_}
 use native.Mathlib.Omega.{arith}
 use borrow.Author.Tests.{ltb-true, ltb-false}
 use Rattle.moves.proofs.Returning.{stepped-dry}
@@ -63,7 +64,7 @@ same-length-5 : tie.Need-same-length-5
 same-length-5 c = search needs
 
 returns-4 : tie.Need-returns-4
-returns-4 c = let p = c .before .before .before .before .before .before .before .before .before .before .before .before .before .before .before in move-strides (p .args .words .now) (p .args .ws .now) (p .args .locals .now) (p .args .plan) (p .args .g) (p .pre .0) _ _ _ (stepped-dry (p .args .words .now) (p .args .ws .now) (p .args .locals .now) (p .args .plan) (full (p .args .g)) (p .args .v) _ _ (returned (p .args .words .now) (p .args .ws .now) (p .args .locals .now) (p .args .plan) (p .args .g) (p .args .v) _ _ (record { calm = p .pre .0; is = p .pre .1; depth = omega (arith, c .before .before .before .before .before .before .before .before .before .before .if1 .left); of-kind = sym (c .before .before .before .before .before .before .before .before .kind-at .ensures) })) (ltb-false _ _ (sym (c .before .before .before .before .before .allows .ensures) ∙ c .before .before .before .before .if3 .left)) (omega (arith, c .before .before .before .before .before .before .if2 .left)) _ (c .before .before .seat-of .ensures) _ (c .before .halt .ensures)) _ (c .settle .ensures)
+returns-4 c = let p = c .before .before .before .before .before .before .before .before .before .before .before .before .before .before .before in move-strides (p .args .words .now) (p .args .ws .now) (p .args .locals .now) (p .args .plan) (p .args .g) (p .pre .0) _ _ _ (stepped-dry (p .args .words .now) (p .args .ws .now) (p .args .locals .now) (p .args .plan) (full (p .args .g)) (p .args .v) _ _ (returned (p .args .words .now) (p .args .ws .now) (p .args .locals .now) (p .args .plan) (p .args .g) (p .args .v) _ _ (record { calm = p .pre .0; is = p .pre .1; depth = omega (arith, c .before .before .before .before .before .before .before .before .before .before .if1 .left); of-kind = sym (c .before .before .before .before .before .before .before .before .kind-at .ensures) })) (ltb-false _ _ (sym (c .before .before .before .before .before .allows .ensures) ∙ c .before .before .before .before .if3 .left)) (omega (arith, c .before .before .before .before .before .before .if2 .left)) _ (c .before .before .seat-of .ensures) _ (c .before .halt .ensures)) (λ next e. let z : _≡_ {A = ℕ} 0 1 = cc (c .before .halt .ensures) in absurd (omega arith)) _ (c .settle .ensures)
 
 pub ret-spec : {M : Type 1} → statement M
 ret-spec =

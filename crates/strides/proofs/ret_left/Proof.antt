@@ -1,6 +1,7 @@
 -- `strides::ret_left` meets its contract, by the laws of Striding, Settling.
 use mathlib.Core.Path.{refl}
-use Rattle.strides.proofs.Striding.{settles, strides, asked, operand, rebounds-strides}
+use native.Mathlib.Omega.{arith}
+use Rattle.strides.proofs.Striding.{settles, paid-strides, asked, operand, rebounds-strides}
 use Rattle.strides.proofs.Settling.{small}
 use borrow.Author.Needs.{needs}
 use Rattle.strides.proofs.ret_left.Statement.{statement}
@@ -28,7 +29,7 @@ same-length-2 : tie.Need-same-length-2
 same-length-2 c = search needs
 
 returns : tie.Need-returns
-returns c = let p = c .before .before .before .before .before .before .before .before .before .before .before .before .before .before .before .before in strides (p .args .words .now) (p .args .ws .now) (p .args .locals .now) (p .args .plan) (p .args .g) (p .pre .0 .calm) _ (c .before .before .before .before .before .before .expand .ensures) _ _ _ (c .before .before .before .before .before .ret-left-operand .ensures) _ (c .settle .ensures)
+returns c = let p = c .before .before .before .before .before .before .before .before .before .before .before .before .before .before .before .before in paid-strides (p .args .words .now) (p .args .ws .now) (p .args .locals .now) (p .args .plan) (p .args .g) (p .args .v) (p .args .top) 0 (p .pre .0) (omega arith) _ (c .before .before .before .before .before .before .expand .ensures) _ _ _ (c .before .before .before .before .before .ret-left-operand .ensures) _ (c .settle .ensures)
 
 same-length-3 : tie.Need-same-length-3
 same-length-3 c = search needs

@@ -1,5 +1,5 @@
 -- `strides::ret_paid` meets its contract, by the laws of Striding.
-use Rattle.strides.proofs.Striding.{settles, strides, kind-is, asked}
+use Rattle.strides.proofs.Striding.{settles, paid-strides, kind-is, asked}
 use Rattle.moves.proofs.Returning.{last-kind}
 use borrow.Author.Needs.{needs}
 use Rattle.strides.proofs.ret_paid.Statement.{statement}
@@ -63,7 +63,7 @@ same-length-4 : tie.Need-same-length-4
 same-length-4 c = search needs
 
 returns-2 : tie.Need-returns-2
-returns-2 c = let p = c .before .before .before .before .before .before .before .before .before .before in strides (p .args .words .now) (p .args .ws .now) (p .args .locals .now) (p .args .plan) (p .args .g) (p .pre .0 .calm) _ (c .before .before .before .before .before .expand .ensures) _ _ _ (c .before .ret-right-operand .ensures) _ (c .settle .ensures)
+returns-2 c = let p = c .before .before .before .before .before .before .before .before .before .before in paid-strides (p .args .words .now) (p .args .ws .now) (p .args .locals .now) (p .args .plan) (p .args .g) (p .args .v) (p .args .top) (p .args .kind) (p .pre .0) (p .pre .1) _ (c .before .before .before .before .before .expand .ensures) _ _ _ (c .before .ret-right-operand .ensures) _ (c .settle .ensures)
 
 same-length-5 : tie.Need-same-length-5
 same-length-5 c = search needs
@@ -72,7 +72,7 @@ same-length-6 : tie.Need-same-length-6
 same-length-6 c = search needs
 
 returns-3 : tie.Need-returns-3
-returns-3 c = let p = c .before .before .before .before .before .before .before .before .before .before .before .before in strides (p .args .words .now) (p .args .ws .now) (p .args .locals .now) (p .args .plan) (p .args .g) (p .pre .0 .calm) _ (c .before .before .before .before .before .before .before .expand .ensures) _ _ _ (c .before .before .before .ret-condition .ensures) _ (c .settle2 .ensures)
+returns-3 c = let p = c .before .before .before .before .before .before .before .before .before .before .before .before in paid-strides (p .args .words .now) (p .args .ws .now) (p .args .locals .now) (p .args .plan) (p .args .g) (p .args .v) (p .args .top) (p .args .kind) (p .pre .0) (p .pre .1) _ (c .before .before .before .before .before .before .before .expand .ensures) _ _ _ (c .before .before .before .ret-condition .ensures) _ (c .settle2 .ensures)
 
 same-length-7 : tie.Need-same-length-7
 same-length-7 c = search needs
@@ -81,7 +81,7 @@ same-length-8 : tie.Need-same-length-8
 same-length-8 c = search needs
 
 returns-4 : tie.Need-returns-4
-returns-4 c = let p = c .before .before .before .before .before .before .before .before .before .before .before .before in strides (p .args .words .now) (p .args .ws .now) (p .args .locals .now) (p .args .plan) (p .args .g) (p .pre .0 .calm) _ (c .before .before .before .before .before .before .before .expand .ensures) _ _ _ (c .before .before .before .ret-binding .ensures) _ (c .settle3 .ensures)
+returns-4 c = let p = c .before .before .before .before .before .before .before .before .before .before .before .before in paid-strides (p .args .words .now) (p .args .ws .now) (p .args .locals .now) (p .args .plan) (p .args .g) (p .args .v) (p .args .top) (p .args .kind) (p .pre .0) (p .pre .1) _ (c .before .before .before .before .before .before .before .expand .ensures) _ _ _ (c .before .before .before .ret-binding .ensures) _ (c .settle3 .ensures)
 
 same-length-9 : tie.Need-same-length-9
 same-length-9 c = search needs
@@ -90,7 +90,7 @@ same-length-10 : tie.Need-same-length-10
 same-length-10 c = search needs
 
 returns-5 : tie.Need-returns-5
-returns-5 c = let p = c .before .before .before .before .before .before .before .before .before .before .before .before .before .before in strides (p .args .words .now) (p .args .ws .now) (p .args .locals .now) (p .args .plan) (p .args .g) (p .pre .0 .calm) _ (c .before .before .before .before .before .before .before .before .before .expand .ensures) _ _ _ (c .before .before .before .before .before .ret-argument .ensures) _ (c .settle4 .ensures)
+returns-5 c = let p = c .before .before .before .before .before .before .before .before .before .before .before .before .before .before in paid-strides (p .args .words .now) (p .args .ws .now) (p .args .locals .now) (p .args .plan) (p .args .g) (p .args .v) (p .args .top) (p .args .kind) (p .pre .0) (p .pre .1) _ (c .before .before .before .before .before .before .before .before .before .expand .ensures) _ _ _ (c .before .before .before .before .before .ret-argument .ensures) _ (c .settle4 .ensures)
 
 same-length-11 : tie.Need-same-length-11
 same-length-11 c = search needs
@@ -99,7 +99,7 @@ same-length-12 : tie.Need-same-length-12
 same-length-12 c = search needs
 
 returns-6 : tie.Need-returns-6
-returns-6 c = let p = c .before .before .before .before .before .before .before .before .before .before .before .before .before .before in strides (p .args .words .now) (p .args .ws .now) (p .args .locals .now) (p .args .plan) (p .args .g) (p .pre .0 .calm) _ (c .before .before .before .before .before .before .before .before .before .expand .ensures) _ _ _ (c .before .before .before .before .before .ret-plain-left .ensures) _ (c .settle5 .ensures)
+returns-6 c = let p = c .before .before .before .before .before .before .before .before .before .before .before .before .before .before in paid-strides (p .args .words .now) (p .args .ws .now) (p .args .locals .now) (p .args .plan) (p .args .g) (p .args .v) (p .args .top) (p .args .kind) (p .pre .0) (p .pre .1) _ (c .before .before .before .before .before .before .before .before .before .expand .ensures) _ _ _ (c .before .before .before .before .before .ret-plain-left .ensures) _ (c .settle5 .ensures)
 
 same-length-13 : tie.Need-same-length-13
 same-length-13 c = search needs
@@ -108,7 +108,7 @@ same-length-14 : tie.Need-same-length-14
 same-length-14 c = search needs
 
 returns-7 : tie.Need-returns-7
-returns-7 c = let p = c .before .before .before .before .before .before .before .before .before .before .before .before in strides (p .args .words .now) (p .args .ws .now) (p .args .locals .now) (p .args .plan) (p .args .g) (p .pre .0 .calm) _ (c .before .before .before .before .before .before .before .expand .ensures) _ _ _ (c .before .before .before .ret-plain-right .ensures) _ (c .settle6 .ensures)
+returns-7 c = let p = c .before .before .before .before .before .before .before .before .before .before .before .before in paid-strides (p .args .words .now) (p .args .ws .now) (p .args .locals .now) (p .args .plan) (p .args .g) (p .args .v) (p .args .top) (p .args .kind) (p .pre .0) (p .pre .1) _ (c .before .before .before .before .before .before .before .expand .ensures) _ _ _ (c .before .before .before .ret-plain-right .ensures) _ (c .settle6 .ensures)
 
 pub ret-paid-spec : {M : Type 1} → statement M
 ret-paid-spec =
