@@ -1,1 +1,2 @@
 -- The proofs of what specs/ states.
+pub mod AsFitted
