@@ -1,2 +1,3 @@
 -- The proofs of what specs/ states.
 pub mod AsFitted
+pub mod Buffer
