@@ -1,3 +1,4 @@
 -- The proofs of what specs/ states.
 pub mod AsFitted
+pub mod AsWithout
 pub mod Buffer
