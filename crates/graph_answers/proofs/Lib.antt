@@ -1,4 +1,5 @@
 -- The proofs of what specs/ states.
 pub mod AsFitted
 pub mod AsWithout
+pub mod Claim
 pub mod Buffer

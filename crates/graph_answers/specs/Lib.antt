@@ -2,4 +2,5 @@
 pub mod Answers
 pub mod Fitted
 pub mod AsWithout
+pub mod Claim
 pub mod Buffer
