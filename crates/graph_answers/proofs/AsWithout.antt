@@ -93,7 +93,7 @@ beside lent n (Refused r) never = record {
 }
 
 module _ (m : Schedule) (w arguments : List ℕ) (fuel workspace : ℕ) where
-  needed-is : (v : ℕ) (g : Graph) (t : RunCounts) → outcome graphs (language w) fuel (framesIn workspace) m (entryCode arguments) ≡ ended (value v) g t
+  pub needed-is : (v : ℕ) (g : Graph) (t : RunCounts) → outcome graphs (language w) fuel (framesIn workspace) m (entryCode arguments) ≡ ended (value v) g t
       → needed m w arguments fuel workspace ≡ length (written g)
   unfolding wordsOf words-told
   needed-is v g t e = rw e

@@ -3,3 +3,4 @@ pub mod AsFitted
 pub mod AsWithout
 pub mod Claim
 pub mod Buffer
+pub mod Reported
