@@ -1,2 +1,3 @@
 -- The proofs of what specs/ states. Another crate cites them so: `use Rattle.graph.proofs.Words.{worked-out}`.
 pub mod Words
+pub mod OneGraph
