@@ -4,3 +4,4 @@ pub mod AsWithout
 pub mod Claim
 pub mod Buffer
 pub mod Reported
+pub mod Examples
