@@ -16,11 +16,14 @@ use Rattle.table.specs.declared.Reading.{Reading}
 use Rattle.table.specs.declared.Reading.the-variants as reading
 use Rattle.graph.specs.Words.{written}
 use Rattle.graph.specs.Lent.{ending-with, left-in}
+use Rattle.language.specs.declared.Stop.{Stop}
+use Rattle.language.specs.declared.Answer.the-variants.{Stopped, Refused}
 use Rattle.language.specs.Language.{language}
 use Rattle.language.specs.Checks.{framesIn, checkedOf}
-use Rattle.language.specs.Answers.{entryCode}
-use Rattle.graph_answers.specs.Answers.{lentTo, bufferOf, lentRun, unlessRefused, graphLeft}
-use Rattle.graph_answers.specs.Buffer.{LeftLong, BufferLeft}
+use Rattle.language.specs.Answers.{entryCode, toldBy, afterCheck}
+use Rattle.language.proofs.Told.{ran-unrefused}
+use Rattle.graph_answers.specs.Answers.{lentTo, bufferOf, lentRun, unlessRefused, graphedOf, graphLeft}
+use Rattle.graph_answers.specs.Buffer.{LeftLong, BufferLeft, LeftByAnswerAlways}
 
 -- What is left is as long as what was lent.
 in-long : (lent : ℕ) (z : Ending) (g : Graph) → length (left-in lent (ending-with lent z g) g) ≡ lent
@@ -69,3 +72,30 @@ buffer-left m w arguments fuel N τ workspace found = record {
   at-25 = λ v g t r h. rw (left-run m w arguments fuel N τ workspace found (value v) g t (r .accepted) (r .is), lt-leb (length (written g)) (length found) h);
   at-stop = λ i p g t r. rw (left-run m w arguments fuel N τ workspace found (stop i p) g t (r .accepted) (r .is));
 }
+
+-- By the answer: after a stop all is zero, and a refusal is the check's.
+module _ (w : List ℕ) (τ lent : ℕ) where
+  run-stopped : (s : Stop) (o : Result graphs (language w)) → toldBy τ o ≡ Stopped s → bufferOf lent o ≡ replicate lent 0
+  unfolding toldBy bufferOf left-in
+  run-stopped s (ended (value v) g t) e = let no : _≡_ {A = ℕ} 0 1 = cc in absurd (omega arith)
+  run-stopped s (ended (stop i p) g t) e = refl
+  run-stopped s (ongoing u) e = refl
+
+  check-stopped : (s : Stop) (r : Reading) (o : Result graphs (language w)) (found : List ℕ) → afterCheck r (toldBy τ o) ≡ Stopped s
+      → unlessRefused r (bufferOf lent o) found ≡ replicate lent 0
+  unfolding afterCheck unlessRefused
+  check-stopped s reading.Accepted o found e = run-stopped s o e
+  check-stopped s (reading.Refused r) o found e = let no : _≡_ {A = ℕ} 0 1 = cc in absurd (omega arith)
+
+  check-refused : (f : Refusal) (r : Reading) (o : Result graphs (language w)) (found : List ℕ) → afterCheck r (toldBy τ o) ≡ Refused f
+      → unlessRefused r (bufferOf lent o) found ≡ found
+  unfolding afterCheck unlessRefused
+  check-refused f reading.Accepted o found e = absurd (ran-unrefused τ o f e)
+  check-refused f (reading.Refused r) o found e = refl
+
+pub left-by-answer : LeftByAnswerAlways
+unfolding graphedOf graphLeft
+left-by-answer m w arguments fuel N τ workspace found =
+    let c = checkedOf w (length arguments) fuel N τ workspace in
+    let o = lentRun m w arguments fuel workspace (length found) in
+    record { at-stop = λ s e. check-stopped w τ (length found) s c o found e; at-refusal = λ r e. check-refused w τ (length found) r c o found e }

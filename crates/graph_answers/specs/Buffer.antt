@@ -11,10 +11,12 @@ use Rattle.schedule.specs.Runs.{outcome}
 use Rattle.table.specs.declared.Refusal.{Refusal}
 use Rattle.table.specs.declared.Reading.the-variants as reading
 use Rattle.graph.specs.Words.{written}
+use Rattle.language.specs.declared.Stop.{Stop}
+use Rattle.language.specs.declared.Answer.the-variants.{Stopped, Refused}
 use Rattle.language.specs.Language.{language}
 use Rattle.language.specs.Checks.{framesIn, checkedOf}
 use Rattle.language.specs.Answers.{entryCode}
-use Rattle.graph_answers.specs.Answers.{graphLeft}
+use Rattle.graph_answers.specs.Answers.{graphedOf, graphLeft}
 
 -- THEOREM (proofs/Buffer.antt, `left-long`): the buffer has as many words as before.
 abbrev pub LeftLong : Type 0
@@ -40,3 +42,15 @@ pub record Left (m : Schedule) (w arguments : List ℕ) (fuel N τ workspace : �
 -- THEOREM (`buffer-left`), for every input and whatever the buffer held.
 abbrev pub BufferLeft : Type 0
 BufferLeft = (m : Schedule) (w arguments : List ℕ) (fuel N τ workspace : ℕ) (found : List ℕ) → Left m w arguments fuel N τ workspace found
+
+-- The same by the answer, as a caller sees it; Reported.antt has the value.
+pub record LeftByAnswer (m : Schedule) (w arguments : List ℕ) (fuel N τ workspace : ℕ) (found : List ℕ) : Type 0 where
+  pub at-stop : (s : Stop) → graphedOf m w arguments fuel N τ workspace (length found) .answer ≡ Stopped s
+      → graphLeft m w arguments fuel N τ workspace found ≡ replicate (length found) 0
+  pub at-refusal : (r : Refusal) → graphedOf m w arguments fuel N τ workspace (length found) .answer ≡ Refused r
+      → graphLeft m w arguments fuel N τ workspace found ≡ found
+
+-- THEOREM (`left-by-answer`).
+abbrev pub LeftByAnswerAlways : Type 0
+LeftByAnswerAlways = (m : Schedule) (w arguments : List ℕ) (fuel N τ workspace : ℕ) (found : List ℕ)
+    → LeftByAnswer m w arguments fuel N τ workspace found
