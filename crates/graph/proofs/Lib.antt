@@ -1,3 +1,4 @@
 -- The proofs of what specs/ states. Another crate cites them so: `use Rattle.graph.proofs.Words.{worked-out}`.
 pub mod Words
 pub mod OneGraph
+pub mod Examples

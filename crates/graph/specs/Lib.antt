@@ -3,3 +3,5 @@
 pub mod Words
 
 pub mod Lent
+
+pub mod Examples
