@@ -26,7 +26,7 @@ use Rattle.graph.specs.Words.{written}
 use Rattle.graph.specs.Lent.{nowhere, ending-with, words-told}
 use Rattle.graph_answers.specs.declared.Graphed.{Graphed}
 use Rattle.graph_answers.specs.Answers.{lentTo, wordsOf, lentRun, unlessRefused, graphedOf}
-use Rattle.graph_answers.specs.Fitted.{fittedOf, WordsCounted, AsFitted}
+use Rattle.graph_answers.specs.Fitted.{fittedOf, Serves, WordsCounted, AsFitted}
 
 -- `fittedOf` by its cases.
 module _ (a : Answer) (words room : ℕ) where
@@ -53,16 +53,15 @@ module _ (w : List ℕ) (τ lent n : ℕ) where
   with-buffer o = record { answer = toldBy τ (lentTo lent o); words = wordsOf (lentTo lent o) }
 
   at-value : (v : ℕ) (g : Graph) (t : RunCounts) (q : Bool) → leb (length (written g)) lent ≡ q
-      → (n ≡ length (written g)) ⊎ ((lent < n) × (lent < length (written g)))
-      → fittedOf (toldBy {X = Result graphs (language w)} τ (ended (value v) g t)) n lent ≡ with-buffer (ended (value v) g t)
+      → Serves lent n (length (written g)) → fittedOf (toldBy {X = Result graphs (language w)} τ (ended (value v) g t)) n lent ≡ with-buffer (ended (value v) g t)
   unfolding fittedOf toldBy lentTo wordsOf ending-with words-told
-  at-value v g t true q (inl e) = rw (q, e, q)
-  at-value v g t false q (inl e) = rw (q, e, q)
+  at-value v g t true q (inl e) = simp (e, q)
+  at-value v g t false q (inl e) = simp (e, q)
   at-value v g t true q (inr over) = absurd (omega (arith, leb-true (length (written g)) lent q, over .1))
   at-value v g t false q (inr over) = rw (q, lt-leb n lent (over .0))
 
   of-run : (o : Result graphs (language w))
-      → ((v : ℕ) (g : Graph) (t : RunCounts) → o ≡ ended (value v) g t → (n ≡ length (written g)) ⊎ ((lent < n) × (lent < length (written g))))
+      → ((v : ℕ) (g : Graph) (t : RunCounts) → o ≡ ended (value v) g t → Serves lent n (length (written g)))
       → fittedOf (toldBy τ o) n lent ≡ with-buffer o
   unfolding fittedOf toldBy lentTo wordsOf ending-with words-told
   of-run (ended (value v) g t) h = at-value v g t (leb (length (written g)) lent) refl (h v g t refl)

@@ -49,7 +49,7 @@ stop-refused e = let no : _≡_ {A = ℕ} 0 1 = cc in omega arith
 module _ (lent n v : ℕ) (k : Counts) where
   value-beside : (q : Bool) → leb n lent ≡ q → Beside lent n (Value v k) (cond q (record { answer = Value v k; words = n }) (record { answer = tooLong k; words = 0 }))
   value-beside true q = record {
-    value-iff = λ u l. (λ e. (e, leb-true n lent q), λ e. e .0);
+    value-iff = λ u l. (λ e. (e, omega (arith, leb-true n lent q)), λ e. e .0);
     words-at-value = λ u l e. refl;
     stop-iff = λ s h. (λ e. e, λ e. e);
     at-25-iff = λ s h. (λ e. absurd (value-stop e), λ t. let fits = leb-true n lent q in absurd (omega (arith, t .over)));
@@ -62,7 +62,7 @@ module _ (lent n v : ℕ) (k : Counts) where
     words-at-value = λ u l e. absurd (value-stop (sym e));
     stop-iff = λ s h. (λ e. let is : 25 ≡ s .number = cc in absurd (h (omega arith)), λ e. absurd (value-stop e));
     at-25-iff = λ s h. (
-      λ e. record { v = v; k = k; was = refl; over = leb-false n lent q; is = sym e },
+      λ e. record { v = v; k = k; was = refl; over = omega (arith, leb-false n lent q); is = sym e },
       λ t. let same : t .k ≡ k = cc in ap tooLong (sym same) ∙ sym (t .is),
     );
     no-words-at-stop = λ s e. refl;

@@ -25,6 +25,19 @@ use Rattle.language.proofs.Told.{ran-unrefused}
 use Rattle.graph_answers.specs.Answers.{lentTo, bufferOf, lentRun, unlessRefused, graphedOf, graphLeft}
 use Rattle.graph_answers.specs.Buffer.{LeftLong, BufferLeft, LeftByAnswerAlways}
 
+-- By what the check says.
+module _ (m : Schedule) (w arguments : List ℕ) (fuel N τ workspace : ℕ) (found : List ℕ) where
+  pub left-refused : (r : Refusal) → checkedOf w (length arguments) fuel N τ workspace ≡ reading.Refused r
+      → graphLeft m w arguments fuel N τ workspace found ≡ found
+  unfolding graphLeft unlessRefused
+  left-refused r e = rw e
+
+  pub left-run : (z : Ending) (g : Graph) (t : RunCounts) → checkedOf w (length arguments) fuel N τ workspace ≡ reading.Accepted
+      → outcome graphs (language w) fuel (framesIn workspace) m (entryCode arguments) ≡ ended z g t
+      → graphLeft m w arguments fuel N τ workspace found ≡ left-in (length found) (ending-with (length found) z g) g
+  unfolding graphLeft unlessRefused lentTo bufferOf
+  left-run z g t accepted e = rw (accepted, e)
+
 -- What is left is as long as what was lent.
 in-long : (lent : ℕ) (z : Ending) (g : Graph) → length (left-in lent (ending-with lent z g) g) ≡ lent
 unfolding ending-with left-in
@@ -51,18 +64,6 @@ pub left-long : LeftLong
 unfolding graphLeft
 left-long m w arguments fuel N τ workspace found = check-long (checkedOf w (length arguments) fuel N τ workspace) _ found
     (run-long w (length found) (outcome graphs (language w) fuel (framesIn workspace) m (entryCode arguments)))
-
-module _ (m : Schedule) (w arguments : List ℕ) (fuel N τ workspace : ℕ) (found : List ℕ) where
-  pub left-refused : (r : Refusal) → checkedOf w (length arguments) fuel N τ workspace ≡ reading.Refused r
-      → graphLeft m w arguments fuel N τ workspace found ≡ found
-  unfolding graphLeft unlessRefused
-  left-refused r e = rw e
-
-  pub left-run : (z : Ending) (g : Graph) (t : RunCounts) → checkedOf w (length arguments) fuel N τ workspace ≡ reading.Accepted
-      → outcome graphs (language w) fuel (framesIn workspace) m (entryCode arguments) ≡ ended z g t
-      → graphLeft m w arguments fuel N τ workspace found ≡ left-in (length found) (ending-with (length found) z g) g
-  unfolding graphLeft unlessRefused lentTo bufferOf
-  left-run z g t accepted e = rw (accepted, e)
 
 pub buffer-left : BufferLeft
 unfolding ending-with left-in

@@ -35,10 +35,10 @@ module _ (m : Schedule) (w arguments : List ℕ) (fuel N τ workspace lent : ℕ
   value-or-25 v k e = by (leb (needed m w arguments fuel workspace) lent) refl
     where
       by : (q : Bool) → leb (needed m w arguments fuel workspace) lent ≡ q → ValueOr25 v k (answerLent m w arguments fuel N τ workspace lent)
-      by true q = inl (same .value-iff v k .1 (e, leb-true (needed m w arguments fuel workspace) lent q))
+      by true q = inl (same .value-iff v k .1 (e, omega (arith, leb-true (needed m w arguments fuel workspace) lent q)))
       by false q =
           let s : Stop = record { number = 25; function = 0; node = 0; transitions = k .transitions; deepest = k .deepest } in
-          inr (same .at-25-iff s refl .1 (record { v = v; k = k; was = e; over = leb-false (needed m w arguments fuel workspace) lent q; is = refl }))
+          inr (same .at-25-iff s refl .1 (record { v = v; k = k; was = e; over = omega (arith, leb-false (needed m w arguments fuel workspace) lent q); is = refl }))
 
   -- the depth is the run's, at 25 too
   depth-kept : (v : ℕ) (k : Counts) → answerOf m w arguments fuel N τ workspace ≡ Value v k

@@ -29,12 +29,16 @@ fittedOf (Value v k) words room = cond (leb words room)
 fittedOf (Stopped s) words room = record { answer = Stopped s; words = 0 }
 fittedOf (Refused r) words room = record { answer = Refused r; words = 0 }
 
--- What the count n of words has to be where a run ends in a value: the length of its graph's words. Beside a buffer that is full code counts no
--- further, so that then both need only be more than were lent.
+-- A count n serves for a graph that needs `words`: it is that number. Beside a buffer that is full code counts no further, so that else both need only be
+-- more than were lent.
+abbrev pub Serves : (lent n words : ℕ) → Type 0
+Serves lent n words = (n ≡ words) ⊎ ((lent < n) × (lent < words))
+
+-- The count of a run that ends in a value serves for its graph.
 abbrev pub WordsCounted : Schedule → (w arguments : List ℕ) (fuel workspace lent n : ℕ) → Type 0
 WordsCounted m w arguments fuel workspace lent n = (v : ℕ) (g : Graph) (t : RunCounts)
     → outcome graphs (language w) fuel (framesIn workspace) m (entryCode arguments) ≡ ended (value v) g t
-    → (n ≡ length (written g)) ⊎ ((lent < n) × (lent < length (written g)))
+    → Serves lent n (length (written g))
 
 -- THEOREM (proofs/AsFitted.antt, `as-fitted`), for every input and number of words lent.
 abbrev pub AsFitted : Type 0

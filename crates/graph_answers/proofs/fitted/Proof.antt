@@ -1,4 +1,5 @@
 -- `graph_answers::fitted` meets its contract: each arm is a clause of `fittedOf`. Assumes nothing.
+use native.Mathlib.Omega.{arith}
 use borrow.Author.Needs.{needs}
 use Rattle.graph_answers.proofs.AsFitted.{fits, too-long, stop-fitted, refusal-fitted}
 use Rattle.graph_answers.proofs.fitted.Statement.{statement}
@@ -8,7 +9,7 @@ enum-known-answer : tie.Need-enum-known-answer
 enum-known-answer c = search needs
 
 returns : tie.Need-returns
-returns c = fits _ _ _ _ _ (c .before .before .answer .given .1) (c .if1 .taken)
+returns c = let a = c .before .before .before .before .args in fits (a .answer) (a .words) (a .room) _ _ (c .before .before .answer .given .1) (omega arith)
 
 enum-told : tie.Need-enum-told
 enum-told c = search needs
@@ -17,7 +18,7 @@ enum-told-2 : tie.Need-enum-told-2
 enum-told-2 c = search needs
 
 returns-2 : tie.Need-returns-2
-returns-2 c = too-long _ _ _ _ _ (c .before .before .answer .given .1) (c .if1 .left)
+returns-2 c = let a = c .before .before .before .before .args in too-long (a .answer) (a .words) (a .room) _ _ (c .before .before .answer .given .1) (omega arith)
 
 returns-3 : tie.Need-returns-3
 returns-3 c = stop-fitted _ _ _ _ (c .enum-told .given .1)
