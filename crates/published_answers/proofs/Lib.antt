@@ -1,4 +1,5 @@
 -- The proof of what specs/ states.
 pub mod Answers
+pub mod Graphs
 mod Example
 mod StopExample

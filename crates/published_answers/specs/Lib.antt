@@ -1,2 +1,3 @@
 -- What a reader must believe: how the answers of the three machines are those of the published semantics.
 pub mod Answers
+pub mod Graphs
