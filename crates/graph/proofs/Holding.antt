@@ -48,7 +48,7 @@ unfolding count-ended stretch
 counted-end w zero = ap length (sym (append-nil w))
 counted-end w (suc k) = sym (length-append w (0 ∷ suc k ∷ []))
 
-pub counted-few : (n k : ℕ) → (n ≤ count-ended n k) × (count-ended n k ≤ n + 2 * k)
+pub counted-few : (n k : ℕ) → (n ≤ count-ended n k) × (count-ended n k ≤ n + 2 * k) × (count-ended n k ≤ n + 2)
 unfolding count-ended
 counted-few n zero = omega arith
 counted-few n (suc k) = omega arith

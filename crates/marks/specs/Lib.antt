@@ -1,0 +1,2 @@
+-- What a free move writes of the cost graph.
+pub mod Marks
