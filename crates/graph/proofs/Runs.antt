@@ -147,7 +147,7 @@ module _ (K L : CostAlgebra) (M : FrameMachine) (h : K .Cost → L .Cost) (e : H
   cond-map true a b = refl
   cond-map false a b = refl
 
-  step-by-map : (s : State K M) → step-by L M fuel frames born N (map-state K L M h s) ≡ mapped (step-by K M fuel frames born N s)
+  pub step-by-map : (s : State K M) → step-by L M fuel frames born N (map-state K L M h s) ≡ mapped (step-by K M fuel frames born N s)
   unfolding step-by map-outcome map-state
   step-by-map (state c S n g t) =
       let due = leb N n && promotable S in

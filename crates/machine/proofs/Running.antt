@@ -6,7 +6,7 @@
 --     running-next       and keeps the invariant
 --     running-ends       at the end the answer is the definition's
 use Prim.Native.Nat.{ℕ, _+_, _-_, _*_, _/_, _<_, _≤_, _^_, zero-le}
-use mathlib.Core.Path.{_≡_, refl, sym, ap, _∙_}
+use mathlib.Core.Path.{_≡_, refl, sym, ap, _∙_, subst}
 use mathlib.Core.Logic.{_⊎_, inl, inr}
 use mathlib.Core.List.{List}
 use native.Mathlib.Omega.{arith}
@@ -31,17 +31,14 @@ use Rattle.moves.specs.Layout.{stackOf, controlOf, stateOf, resultOf}
 use Rattle.moves.specs.Ready.{Held, Controlled, Ready, KeptBy, Advanced}
 use Rattle.moves.proofs.Steps.{bounds}
 use Rattle.compact.specs.declared.Compact.{Compact}
+use Rattle.compact.specs.declared.Event.{Event}
 use Rattle.compact.specs.declared.Progress.{Progress}
 use Rattle.compact.specs.declared.Progress.the-variants as progress
 use Rattle.compact.specs.Compact.{full, stepOf, limitOf, Paced, PacedBy, compactOf}
 use Rattle.strides.specs.Strides.{Many, Strode, one, many, Strides, Starts}
 use Rattle.machine.specs.Workspace.{leftBy}
 use Rattle.machine.specs.Runs.{begun, toldAt, Countable, Begins, Ran}
-
--- of an enum's tag, as the code's tests tell it
-pub neither : (_≡_ {A = ℕ} 0 1) ⊎ (_≡_ {A = ℕ} 0 2) → ⊥
-neither (inl e) = absurd (omega arith)
-neither (inr e) = absurd (omega arith)
+use Rattle.machine.proofs.Places.{Alike, ready-alike}
 
 -- the loop's measure, with a workspace of so many words
 abbrev pub to-go : List ℕ → ℕ → Plan → List ℕ → List ℕ → Registers → ℕ
@@ -119,11 +116,11 @@ module _ {w arguments : List ℕ} {size : ℕ} {plan : Plan} {ws ls : List ℕ} 
 
   -- SEVERAL MOVES lead to the next registers
   module _ {ws′ ls′ : List ℕ} (next : Compact) (m : Many w ws ls plan s ws′ ls′ (full next)) where
-    moved : schedule.run (step-by (spans (plan .tau)) (language w) (plan .fuel .0) (size / 32) (plan .birth) (plan .period)) (m .more + 1) (stateOf w (plan .tau) ws ls s)
+    pub moved : schedule.run (step-by (spans (plan .tau)) (language w) (plan .fuel .0) (size / 32) (plan .birth) (plan .period)) (m .more + 1) (stateOf w (plan .tau) ws ls s)
         ≡ ongoing (stateOf w (plan .tau) ws′ ls′ (full next))
     moved = rw (r .long) at (m .same)
 
-    advances : BoundedState (plan .tau) (language w) (plan .fuel .0) (size / 32) (stateOf w (plan .tau) ws′ ls′ (full next))
+    pub advances : BoundedState (plan .tau) (language w) (plan .fuel .0) (size / 32) (stateOf w (plan .tau) ws′ ls′ (full next))
         × (to-go w size plan ws′ ls′ (full next) + (m .more + 1) ≤ to-go w size plan ws ls s)
     advances = steps-advance (plan .tau) (language w) (plan .fuel .0) (size / 32) (plan .birth) (plan .period) (ready .limits .tau) (m .more + 1) _ _ bounded moved
 
@@ -162,12 +159,13 @@ module _ {w arguments : List ℕ} {size : ℕ} {plan : Plan} {ws ls : List ℕ} 
 
   -- ONE MOVE, which may be the last
   module _ {ws′ ls′ : List ℕ} {o : Step} (a : Advanced w ws ls plan s ws′ ls′ o) where
-    one-many : (next : Registers) → o ≡ Go next → Many w ws ls plan s ws′ ls′ next
+    unfoldable pub one-many : (next : Registers) → o ≡ Go next → Many w ws ls plan s ws′ ls′ next
     unfolding resultOf KeptBy schedule.run
     one-many next e = record {
       more = 0;
       same = first-then (step-by (spans (plan .tau)) (language w) (plan .fuel .0) (length ws / 32) (plan .birth) (plan .period)) 0 (stateOf w (plan .tau) ws ls s) (stateOf w (plan .tau) ws′ ls′ next) (ongoing (stateOf w (plan .tau) ws′ ls′ next)) (rw e at (a .same)) refl;
       kept = rw e at (a .kept);
+      spared = a .spared;
     }
 
     ended-so : step-by (spans (plan .tau)) (language w) (plan .fuel .0) (size / 32) (plan .birth) (plan .period) (stateOf w (plan .tau) ws ls s)
@@ -206,30 +204,71 @@ module _ {w arguments : List ℕ} {size : ℕ} {plan : Plan} {ws ls : List ℕ} 
 
   -- A STRIDE
   module _ {ws′ ls′ : List ℕ} {o : Progress} (t : Strides w ws ls plan g ws′ ls′ o) where
-    strode-many : (next : Compact) → o ≡ progress.Go next → Many w ws ls plan s ws′ ls′ (full next)
-    unfolding stepOf
-    strode-many next e = on (t .strode)
+    -- how many steps: one, or as many as transitions were made
+    pub strode-exact : (next : Compact) → stepOf o ≡ Go (full next)
+        → (m : Many w ws ls plan s ws′ ls′ (full next)) × ((m .more ≡ 0) ⊎ (next .transitions ≡ g .transitions + (m .more + 1)))
+    unfolding one-many
+    strode-exact next e = on (t .strode)
       where
-        on : Strode w ws ls plan s ws′ ls′ (stepOf o) → Many w ws ls plan s ws′ ls′ (full next)
-        on (one a) = one-many a (full next) (ap stepOf e)
-        on (many n f m) = let x : Go n ≡ Go (full next) = sym f ∙ ap stepOf e in let y : n ≡ full next = cc in rw y at m
+        on : Strode w ws ls plan s ws′ ls′ (stepOf o) → (m : Many w ws ls plan s ws′ ls′ (full next)) × ((m .more ≡ 0) ⊎ (next .transitions ≡ g .transitions + (m .more + 1)))
+        on (one a) = (one-many a (full next) e, inl refl)
+        on (many n f m x) =
+            let z : Go n ≡ Go (full next) = sym f ∙ e in
+            let y : n ≡ full next = cc in
+            subst (λ (k : Registers). (i : Many w ws ls plan s ws′ ls′ k) × ((i .more ≡ 0) ⊎ (k .transitions ≡ g .transitions + (i .more + 1)))) y (m, inr x)
 
-    pub running-less : (next : Compact) → o ≡ progress.Go next → to-go w size plan ws′ ls′ (full next) < to-go w size plan ws ls s
+    abbrev pub strode-many : (next : Compact) → stepOf o ≡ Go (full next) → Many w ws ls plan s ws′ ls′ (full next)
+    strode-many next e = strode-exact next e .0
+
+    pub running-less : (next : Compact) → stepOf o ≡ Go (full next) → to-go w size plan ws′ ls′ (full next) < to-go w size plan ws ls s
     running-less next e = many-less next (strode-many next e)
 
-    pub running-next : (next : Compact) → o ≡ progress.Go next → length ws′ ≡ length ws → Running w arguments size plan ws′ ls′ next
-    unfolding PacedBy
-    running-next next e l = many-next next (strode-many next e) l (rw e at (t .paced))
+    pub running-next : (next : Compact) → stepOf o ≡ Go (full next) → Paced plan next → length ws′ ≡ length ws → Running w arguments size plan ws′ ls′ next
+    running-next next e p l = many-next next (strode-many next e) l p
 
-    pub running-ends : ((next : Compact) → o ≡ progress.Go next → ⊥) → (x : Answer) → x ≡ toldAt (plan .tau) s (stepOf o) → Ran w arguments size plan x
-    unfolding stepOf
+    pub running-ends : ((next : Registers) → stepOf o ≡ Go next → ⊥) → (x : Answer) → x ≡ toldAt (plan .tau) s (stepOf o) → Ran w arguments size plan x
     running-ends stays x e = on (t .strode)
       where
-        still : (p : Progress) → o ≡ p → (next : Registers) → stepOf p ≡ Go next → ⊥
-        still (progress.Go n) f next h = stays n f
-        still (progress.Value v) f next h = let z : _≡_ {A = ℕ} 0 1 = cc in absurd (omega arith)
-        still (progress.Halt p) f next h = let z : _≡_ {A = ℕ} 0 1 = cc in absurd (omega arith)
-
         on : Strode w ws ls plan s ws′ ls′ (stepOf o) → Ran w arguments size plan x
-        on (one a) = one-ends a (still o refl) x e
-        on (many n f m) = absurd (still o refl n f)
+        on (one a) = one-ends a stays x e
+        on (many n f m y) = absurd (stays n f)
+
+    -- the last move of a run is one step
+    pub last-step : ((next : Registers) → stepOf o ≡ Go next → ⊥)
+        → step-by (spans (plan .tau)) (language w) (plan .fuel .0) (size / 32) (plan .birth) (plan .period) (stateOf w (plan .tau) ws ls s) ≡ resultOf w (plan .tau) ws′ ls′ s (stepOf o)
+    last-step stays = on (t .strode)
+      where
+        on : Strode w ws ls plan s ws′ ls′ (stepOf o) → step-by (spans (plan .tau)) (language w) (plan .fuel .0) (size / 32) (plan .birth) (plan .period) (stateOf w (plan .tau) ws ls s) ≡ resultOf w (plan .tau) ws′ ls′ s (stepOf o)
+        on (one a) = ended-so a
+        on (many n f m y) = absurd (stays n f)
+
+-- WHERE A STRIDE GOES ON, by its variant
+pub goes-on : {plan : Plan} {o : Progress} {next : Compact} → o ≡ progress.Go next → PacedBy plan o → (stepOf o ≡ Go (full next)) × Paced plan next
+unfolding stepOf PacedBy
+goes-on e p = (ap stepOf e, rw e at p)
+
+pub goes-free : {plan : Plan} {o : Progress} {next : Compact} {event : Event} → o ≡ progress.Free next event → PacedBy plan o → (stepOf o ≡ Go (full next)) × Paced plan next
+unfolding stepOf PacedBy
+goes-free e p = (ap stepOf e, rw e at p)
+
+-- and where it does not
+pub goes-no-more : (o : Progress) → ((next : Compact) → o ≡ progress.Go next → ⊥) → ((next : Compact) (event : Event) → o ≡ progress.Free next event → ⊥)
+    → (next : Registers) → stepOf o ≡ Go next → ⊥
+unfolding stepOf
+goes-no-more (progress.Go n) a b next e = a n refl
+goes-no-more (progress.Free n v) a b next e = b n v refl
+goes-no-more (progress.Value v) a b next e = let z : _≡_ {A = ℕ} 0 1 = cc in absurd (omega arith)
+goes-no-more (progress.Halt h) a b next e = let z : _≡_ {A = ℕ} 0 1 = cc in absurd (omega arith)
+
+-- THE SAME WITH OTHER PLACES in the frames
+pub running-alike : {w arguments : List ℕ} {size : ℕ} {plan : Plan} {ws ls : List ℕ} {g : Compact} → Running w arguments size plan ws ls g
+    → (ws′ : List ℕ) → length ws′ ≡ length ws → Alike ws ws′ → Running w arguments size plan ws′ ls g
+running-alike {w} {arguments} {size} {plan} {ws} {ls} {g} r ws′ long alike =
+    let x = ready-alike w ws ws′ (r .starts .ready .kept .table) long alike ls plan (full g) (r .starts .ready) in
+    record {
+      long = long ∙ r .long;
+      starts = record { ready = x .1; paced = r .starts .paced };
+      left = r .left;
+      enough = rw (← x .0) (r .enough);
+      course = λ m h. rw (← x .0) (r .course m h);
+    }

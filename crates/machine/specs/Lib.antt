@@ -2,4 +2,5 @@
 -- are defined in crate `language`.
 pub mod Workspace
 pub mod Runs
+pub mod Written
 pub mod AllThree

@@ -3,9 +3,14 @@
 // `sequential`, `parallel` and `heartbeat` check their input and then run it, by one loop over `strides::stride`; `all_three` calls all of
 // them, and promises demand 3 of their answers. What they answer is defined in crate `language` (specs/Answers.antt), and what they leave
 // in the workspace in specs/Workspace.antt.
+//
+// `sequential_graph`, `parallel_graph`, `heartbeat_graph` and `all_three_graphs` are the same with a buffer lent for each run's cost graph
+// (document 02, P1). What they answer and leave in the buffer is defined in crate `graph_answers` (specs/Answers.antt). A run without a buffer
+// is the same run with an empty one, and 25 is not looked at.
 
 use compact::Compact;
 use compact::Progress;
+use graph_answers::Graphed;
 use language::Answer;
 use language::Counts;
 use language::Settings;
@@ -18,15 +23,20 @@ use schedule::Span;
 use schedule::Work;
 use table::Reading;
 ghost use mathlib.Core.Path.{_≡_};
-ghost use Prim.Native.Nat.{_+_, _*_, _≤_};
+ghost use Prim.Native.Nat.{_+_, _*_, _≤_, _<_, _^_};
 ghost use lib.ListN.{length, take};
 ghost use Rattle.table.specs.Read.{startsOf};
 ghost use Rattle.language.specs.Answers.{countsOf, stopped, sequentialOf, parallelOf, heartbeatOf};
 ghost use Rattle.language.specs.Stops.{StopListed};
-ghost use Rattle.compact.specs.Compact.{stepOf, compactOf};
+ghost use Rattle.compact.specs.Compact.{full, stepOf, compactOf};
+ghost use Rattle.marks.specs.Marks.{Small};
 ghost use Rattle.machine.specs.Workspace.{leftBy};
+ghost use Rattle.schedule.specs.Machine.{Schedule};
+ghost use Rattle.graph_answers.specs.Fitted.{fittedOf};
+ghost use Rattle.graph_answers.specs.Answers.{graphedOf, graphLeft};
 ghost use Rattle.machine.specs.Runs.{begun, toldAt, Countable, Accepted, Begins, Ran, Tells};
-ghost use Rattle.machine.specs.AllThree.{AllThree};
+ghost use Rattle.machine.specs.Written.{Finished, Wrote, Lends, clearedBy, StopToldLent};
+ghost use Rattle.machine.specs.AllThree.{AllThree, AllThreeGraphs};
 
 // The period of a machine that never promotes: above any fuel.
 const NEVER: u64 = 18446744073709551615;
@@ -36,6 +46,13 @@ pub struct Answers {
     pub sequential: Answer,
     pub parallel: Answer,
     pub heartbeat: Answer,
+}
+
+// The same with a buffer lent to each.
+pub struct GraphedAnswers {
+    pub sequential: Graphed,
+    pub parallel: Graphed,
+    pub heartbeat: Graphed,
 }
 
 // The registers at a run's start, with so many arguments.
@@ -94,28 +111,49 @@ fn tell(plan: Plan, s: Registers, step: Progress) -> Answer
         Progress::Value(v) => Answer::Value(v, count(plan.tau, s)),
         Progress::Halt(h) => stop(h.number, h.function, h.node, s.transitions, s.deepest),
         Progress::Go(_) => stop(0, 0, 0, 0, 0),
+        Progress::Free(_, _) => stop(0, 0, 0, 0, 0),
     }
 }
 
-// Moves from a run's start to its end.
+// Where a run ends: its answer, and the number of words that its graph needs.
+fn finish(graph: &mut [u32], plan: Plan, g: Compact, n: usize, step: Progress) -> Graphed
+    requires { ⌜ (g .since ≤ g .transitions) × (full g .span .0 < 2 ^ 60) × (Countable plan (full g)) × (0 < length (now graph) → Small n (full g .credits .0)) ⌝ }
+    ensures { λ r. ⌜ (r .answer ≡ toldAt (plan .tau) (full g) (stepOf step)) × (Finished (now (graph .entry)) n (full g .credits .0) (r .words) (now (graph .exit))) ⌝ }
+{
+    let answer = tell(plan, compact::expand(g), step);
+    let words = marks::finish(graph, n, g.transitions - g.since);
+    Graphed { answer, words }
+}
+
+// Moves from a run's start to its end. n is the number of words of its graph so far.
 fn drive(
     words: &[u32],
     starts: &[usize],
     ws: &mut [u64],
     locals: &mut [u64],
+    graph: &mut [u32],
     plan: Plan,
     count: usize,
-) -> Answer
+) -> Graphed
     requires { ⌜ (Begins (now words) (now ws) (now locals) plan count) × (now starts ≡ startsOf (now words)) ⌝ }
-    ensures { λ r. ⌜ Ran (now (words .entry)) (take count (now (locals .entry))) (length (now (ws .entry))) plan r ⌝ }
+    ensures { λ r. ⌜ (Ran (now (words .entry)) (take count (now (locals .entry))) (length (now (ws .entry))) plan (r .answer)) × (Wrote (now (words .entry)) (take count (now (locals .entry))) (length (now (ws .entry))) plan (now (graph .entry)) (r .words) (now (graph .exit))) ⌝ }
 {
     let mut g = begin(plan, count);
+    let mut n: usize = 0;
     loop {
         let step = strides::stride(words, starts, ws, locals, plan, g);
-        let Progress::Go(next) = step else {
-            return tell(plan, compact::expand(g), step);
-        };
-        g = next;
+        match step {
+            Progress::Go(next) => {
+                g = next;
+            }
+            Progress::Free(next, event) => {
+                n = marks::mark(ws, graph, n, g.transitions - g.since, event);
+                g = next;
+            }
+            _ => {
+                return finish(graph, plan, g, n, step);
+            }
+        }
     }
 }
 
@@ -126,30 +164,72 @@ fn run(
     arguments: &[u64],
     ws: &mut [u64],
     locals: &mut [u64],
+    graph: &mut [u32],
     plan: Plan,
-) -> Answer
+) -> Graphed
     requires { ⌜ (Accepted (now words) (now arguments) (now ws) plan) × (now starts ≡ startsOf (now words)) × (length (now locals) ≡ 16) ⌝ }
-    ensures { λ r. ⌜ (Ran (now (words .entry)) (now (arguments .entry)) (length (now (ws .entry))) plan r) × (now (ws .exit) ≡ leftBy r (now (ws .entry))) ⌝ }
+    ensures { λ r. ⌜ (Ran (now (words .entry)) (now (arguments .entry)) (length (now (ws .entry))) plan (r .answer)) × (now (ws .exit) ≡ leftBy (r .answer) (now (ws .entry))) × (Wrote (now (words .entry)) (now (arguments .entry)) (length (now (ws .entry))) plan (now (graph .entry)) (r .words) (now (graph .exit))) ⌝ }
 {
     let count = arguments.len();
     frames::copy(locals, 0, arguments, 0, count);
-    let answer = drive(words, starts, ws, locals, plan, count);
+    let ran = drive(words, starts, ws, locals, graph, plan, count);
     frames::clear(ws);
-    answer
+    ran
 }
 
 // The same, with locals of its own and the places where the bodies start, worked out once.
-fn launch(words: &[u32], arguments: &[u64], ws: &mut [u64], plan: Plan) -> Answer
+fn launch(
+    words: &[u32],
+    arguments: &[u64],
+    ws: &mut [u64],
+    graph: &mut [u32],
+    plan: Plan,
+) -> Graphed
     requires { ⌜ Accepted (now words) (now arguments) (now ws) plan ⌝ }
-    ensures { λ r. ⌜ (Ran (now (words .entry)) (now (arguments .entry)) (length (now (ws .entry))) plan r) × (now (ws .exit) ≡ leftBy r (now (ws .entry))) ⌝ }
+    ensures { λ r. ⌜ (Ran (now (words .entry)) (now (arguments .entry)) (length (now (ws .entry))) plan (r .answer)) × (now (ws .exit) ≡ leftBy (r .answer) (now (ws .entry))) × (Wrote (now (words .entry)) (now (arguments .entry)) (length (now (ws .entry))) plan (now (graph .entry)) (r .words) (now (graph .exit))) ⌝ }
 {
     let starts = table::starts(words);
     let mut locals = [0u64; 16];
-    run(words, &starts, arguments, ws, &mut locals, plan)
+    run(words, &starts, arguments, ws, &mut locals, graph, plan)
 }
 
-// Any of the three machines, for any input: the check first; a run by the two flags of a schedule if it accepts.
+// Any of the three machines, for any input: the check first; a run by the two flags of a schedule if it accepts. Beside the answer it tells the
+// number of words that the graph needs, and leaves in the buffer those that it has room for.
 fn machine(
+    words: &[u32],
+    arguments: &[u64],
+    settings: Settings,
+    birth: bool,
+    pace: u64,
+    workspace: &mut [u64],
+    graph: &mut [u32],
+) -> Graphed
+    ensures { λ r. ⌜ (Tells (now (words .entry)) (now (arguments .entry)) (settings .fuel .0) (settings .period) (settings .tau) (length (now (workspace .entry))) birth pace (r .answer)) × (now (workspace .exit) ≡ leftBy (r .answer) (now (workspace .entry))) × (Lends (now (words .entry)) (now (arguments .entry)) (settings .fuel .0) (settings .period) (settings .tau) (length (now (workspace .entry))) birth pace (now (graph .entry)) (r .words) (now (graph .exit))) ⌝ }
+{
+    let read = language::checked(words, arguments.len(), settings, workspace.len());
+    let fuel = settings.fuel;
+    match read {
+        Reading::Accepted => launch(
+            words,
+            arguments,
+            workspace,
+            graph,
+            Plan {
+                birth,
+                period: pace,
+                tau: settings.tau,
+                fuel,
+            },
+        ),
+        Reading::Refused(refusal) => Graphed {
+            answer: Answer::Refused(refusal),
+            words: 1,
+        },
+    }
+}
+
+// The same without a buffer.
+fn alone(
     words: &[u32],
     arguments: &[u64],
     settings: Settings,
@@ -159,22 +239,28 @@ fn machine(
 ) -> Answer
     ensures { λ r. ⌜ (Tells (now (words .entry)) (now (arguments .entry)) (settings .fuel .0) (settings .period) (settings .tau) (length (now (workspace .entry))) birth pace r) × (now (workspace .exit) ≡ leftBy r (now (workspace .entry))) ⌝ }
 {
-    let read = language::checked(words, arguments.len(), settings, workspace.len());
-    let fuel = settings.fuel;
-    match read {
-        Reading::Accepted => launch(
-            words,
-            arguments,
-            workspace,
-            Plan {
-                birth,
-                period: pace,
-                tau: settings.tau,
-                fuel,
-            },
-        ),
-        Reading::Refused(refusal) => Answer::Refused(refusal),
+    let mut none = [0u32; 0];
+    let ran = machine(words, arguments, settings, birth, pace, workspace, &mut none);
+    ran.answer
+}
+
+// With one: stop 25 where the graph does not fit, and zeros after it, or everywhere after a stop.
+fn concluded(graph: &mut [u32], ran: Graphed) -> Graphed
+    ensures { λ r. ⌜ (r ≡ fittedOf (ran .answer) (ran .words) (length (now (graph .entry)))) × (now (graph .exit) ≡ clearedBy r (now (graph .entry))) ⌝ }
+{
+    let answer = ran.answer;
+    let told = graph_answers::fitted(answer, ran.words, graph.len());
+    let ending = told.answer;
+    match ending {
+        Answer::Value(_, _) => {
+            graph::clear(graph, told.words);
+        }
+        Answer::Stopped(_) => {
+            graph::clear(graph, 0);
+        }
+        Answer::Refused(_) => {}
     }
+    told
 }
 
 // The sequential machine: no fork is promoted.
@@ -191,7 +277,7 @@ pub fn sequential(
     ensures listed { λ r. ⌜ StopListed (now (words .entry)) (fuel .0) r ⌝ }
 {
     let settings = Settings { fuel, period, tau };
-    machine(words, arguments, settings, false, NEVER, workspace)
+    alone(words, arguments, settings, false, NEVER, workspace)
 }
 
 // The parallel machine: every fork is promoted at its birth.
@@ -208,7 +294,7 @@ pub fn parallel(
     ensures listed { λ r. ⌜ StopListed (now (words .entry)) (fuel .0) r ⌝ }
 {
     let settings = Settings { fuel, period, tau };
-    machine(words, arguments, settings, true, NEVER, workspace)
+    alone(words, arguments, settings, true, NEVER, workspace)
 }
 
 // The heartbeat machine: the oldest plain fork is promoted, N transitions after the running machine's start.
@@ -225,7 +311,7 @@ pub fn heartbeat(
     ensures listed { λ r. ⌜ StopListed (now (words .entry)) (fuel .0) r ⌝ }
 {
     let settings = Settings { fuel, period, tau };
-    machine(words, arguments, settings, false, period, workspace)
+    alone(words, arguments, settings, false, period, workspace)
 }
 
 // All three machines on one workspace, one after the other, with demand 3 of their answers, the same depth at a value, and stops that agree.
@@ -243,6 +329,90 @@ pub fn all_three(
     let two = parallel(words, arguments, fuel, period, tau, workspace);
     let three = heartbeat(words, arguments, fuel, period, tau, workspace);
     Answers {
+        sequential: one,
+        parallel: two,
+        heartbeat: three,
+    }
+}
+
+// The sequential machine, with a buffer lent for its cost graph.
+pub fn sequential_graph(
+    words: &[u32],
+    arguments: &[u64],
+    fuel: Fuel,
+    period: u64,
+    tau: u64,
+    workspace: &mut [u64],
+    graph: &mut [u32],
+) -> Graphed
+    ensures answer { λ r. ⌜ r ≡ graphedOf Schedule.sequential (now (words .entry)) (now (arguments .entry)) (fuel .0) period tau (length (now (workspace .entry))) (length (now (graph .entry))) ⌝ }
+    ensures leaves { λ r. ⌜ now (workspace .exit) ≡ leftBy (r .answer) (now (workspace .entry)) ⌝ }
+    ensures writes { λ r. ⌜ now (graph .exit) ≡ graphLeft Schedule.sequential (now (words .entry)) (now (arguments .entry)) (fuel .0) period tau (length (now (workspace .entry))) (now (graph .entry)) ⌝ }
+    ensures listed { λ r. ⌜ StopToldLent (now (words .entry)) (fuel .0) (r .answer) ⌝ }
+{
+    let settings = Settings { fuel, period, tau };
+    let ran = machine(words, arguments, settings, false, NEVER, workspace, graph);
+    concluded(graph, ran)
+}
+
+// The parallel machine, with a buffer lent for its cost graph.
+pub fn parallel_graph(
+    words: &[u32],
+    arguments: &[u64],
+    fuel: Fuel,
+    period: u64,
+    tau: u64,
+    workspace: &mut [u64],
+    graph: &mut [u32],
+) -> Graphed
+    ensures answer { λ r. ⌜ r ≡ graphedOf Schedule.parallel (now (words .entry)) (now (arguments .entry)) (fuel .0) period tau (length (now (workspace .entry))) (length (now (graph .entry))) ⌝ }
+    ensures leaves { λ r. ⌜ now (workspace .exit) ≡ leftBy (r .answer) (now (workspace .entry)) ⌝ }
+    ensures writes { λ r. ⌜ now (graph .exit) ≡ graphLeft Schedule.parallel (now (words .entry)) (now (arguments .entry)) (fuel .0) period tau (length (now (workspace .entry))) (now (graph .entry)) ⌝ }
+    ensures listed { λ r. ⌜ StopToldLent (now (words .entry)) (fuel .0) (r .answer) ⌝ }
+{
+    let settings = Settings { fuel, period, tau };
+    let ran = machine(words, arguments, settings, true, NEVER, workspace, graph);
+    concluded(graph, ran)
+}
+
+// The heartbeat machine, with a buffer lent for its cost graph.
+pub fn heartbeat_graph(
+    words: &[u32],
+    arguments: &[u64],
+    fuel: Fuel,
+    period: u64,
+    tau: u64,
+    workspace: &mut [u64],
+    graph: &mut [u32],
+) -> Graphed
+    ensures answer { λ r. ⌜ r ≡ graphedOf (Schedule.heartbeat period) (now (words .entry)) (now (arguments .entry)) (fuel .0) period tau (length (now (workspace .entry))) (length (now (graph .entry))) ⌝ }
+    ensures leaves { λ r. ⌜ now (workspace .exit) ≡ leftBy (r .answer) (now (workspace .entry)) ⌝ }
+    ensures writes { λ r. ⌜ now (graph .exit) ≡ graphLeft (Schedule.heartbeat period) (now (words .entry)) (now (arguments .entry)) (fuel .0) period tau (length (now (workspace .entry))) (now (graph .entry)) ⌝ }
+    ensures listed { λ r. ⌜ StopToldLent (now (words .entry)) (fuel .0) (r .answer) ⌝ }
+{
+    let settings = Settings { fuel, period, tau };
+    let ran = machine(words, arguments, settings, false, period, workspace, graph);
+    concluded(graph, ran)
+}
+
+// All three machines on one workspace, one after the other, each with a buffer of its own for its cost graph, with demand 3 of their answers.
+pub fn all_three_graphs(
+    words: &[u32],
+    arguments: &[u64],
+    fuel: Fuel,
+    period: u64,
+    tau: u64,
+    workspace: &mut [u64],
+    first: &mut [u32],
+    second: &mut [u32],
+    third: &mut [u32],
+) -> GraphedAnswers
+    ensures { λ r. ⌜ AllThreeGraphs (now (words .entry)) (now (arguments .entry)) (fuel .0) period tau (now (workspace .entry)) (now (first .entry)) (now (second .entry)) (now (third .entry)) (now (workspace .exit)) (now (first .exit)) (now (second .exit)) (now (third .exit)) r ⌝ }
+{
+    let one = sequential_graph(words, arguments, fuel, period, tau, workspace, first);
+    let two = parallel_graph(words, arguments, fuel, period, tau, workspace, second);
+    let three = heartbeat_graph(words, arguments, fuel, period, tau, workspace, third);
+    GraphedAnswers {
         sequential: one,
         parallel: two,
         heartbeat: three,

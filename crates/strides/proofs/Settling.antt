@@ -37,7 +37,7 @@ use Rattle.compact.specs.declared.Progress.the-variants as progress
 use Rattle.compact.specs.Compact.{full, stepOf, PacedBy, compactOf, settledOf, Settles, freedBy, Transits, Small}
 use Rattle.compact.proofs.Keeping.{compact-full, compact-paced, freed-step, freed-paced}
 use Rattle.operands.specs.Operands.{leafAt}
-use Rattle.strides.specs.Strides.{Strode, one, Starts, Calm, Returning, Forks, Occurs, Marks, Strides, Evaluating}
+use Rattle.strides.specs.Strides.{one, Starts, Calm, Returning, Forks, Occurs, Marks, Strides, Evaluating}
 use Rattle.strides.specs.Strides as strides
 
 -- A TRANSITION IS MADE where a step goes on
@@ -129,11 +129,11 @@ module _ (w ws ls : List ℕ) (plan : Plan) (g : Compact) (s : Starts w ws ls pl
     step-settles (Halt h) a = tt
 
     -- a step's answer in any compact registers that stand for it
-    step-strode : (o : Step) → Advanced w ws ls plan (full g) ws′ ls′ o → (r : Progress) → stepOf r ≡ stepOf (settledOf plan o) → Strode w ws ls plan (full g) ws′ ls′ (stepOf r)
+    step-advanced : (o : Step) → Advanced w ws ls plan (full g) ws′ ls′ o → (r : Progress) → stepOf r ≡ stepOf (settledOf plan o) → Advanced w ws ls plan (full g) ws′ ls′ (stepOf r)
     unfolding settledOf stepOf Settles
-    step-strode (Go next) a r e = let x = step-settles (Go next) a in one (rw (e, compact-full plan next (x .0) (x .1) (x .2)) a)
-    step-strode (Value v) a r e = one (rw e a)
-    step-strode (Halt h) a r e = one (rw e a)
+    step-advanced (Go next) a r e = let x = step-settles (Go next) a in rw (e, compact-full plan next (x .0) (x .1) (x .2)) a
+    step-advanced (Value v) a r e = rw e a
+    step-advanced (Halt h) a r e = rw e a
 
     step-paced : (o : Step) → Advanced w ws ls plan (full g) ws′ ls′ o → PacedBy plan (settledOf plan o)
     unfolding settledOf PacedBy Settles
@@ -143,7 +143,12 @@ module _ (w ws ls : List ℕ) (plan : Plan) (g : Compact) (s : Starts w ws ls pl
 
     -- one that makes a transition
     pub step-strides : (o : Step) → Advanced w ws ls plan (full g) ws′ ls′ o → Rises (g .transitions) o → (r : Progress) → r ≡ settledOf plan o → Strides w ws ls plan g ws′ ls′ r
-    step-strides o a up r e = rw e (record { strode = step-strode o a (settledOf plan o) refl; paced = step-paced o a; marks = by o up })
+    step-strides o a up r e = rw e (record {
+      strode = one (step-advanced o a (settledOf plan o) refl);
+      paced = step-paced o a;
+      marks = by o up;
+      single = λ next event i. step-advanced o a (settledOf plan o) refl;
+    })
       where
         by : (o : Step) → Rises (g .transitions) o → Marks w ws ls plan g (settledOf plan o)
         by (Go next) up = unfold settledOf Marks in up next refl
@@ -154,9 +159,10 @@ module _ (w ws ls : List ℕ) (plan : Plan) (g : Compact) (s : Starts w ws ls pl
     pub free-strides : (event : Event) (o : Step) → Advanced w ws ls plan (full g) ws′ ls′ o → ((next : Registers) → o ≡ Go next → Occurs w ws ls plan g (compactOf plan next) event)
         → (r : Progress) → r ≡ freedBy event (settledOf plan o) → Strides w ws ls plan g ws′ ls′ r
     free-strides event o a occurs r e = rw e (record {
-      strode = step-strode o a (freedBy event (settledOf plan o)) (freed-step event (settledOf plan o));
+      strode = one (step-advanced o a (freedBy event (settledOf plan o)) (freed-step event (settledOf plan o)));
       paced = freed-paced plan event (settledOf plan o) (step-paced o a);
       marks = by o occurs;
+      single = λ next other i. step-advanced o a (freedBy event (settledOf plan o)) (freed-step event (settledOf plan o));
     })
       where
         by : (o : Step) → ((next : Registers) → o ≡ Go next → Occurs w ws ls plan g (compactOf plan next) event) → Marks w ws ls plan g (freedBy event (settledOf plan o))
@@ -181,7 +187,7 @@ module _ (w ws ls : List ℕ) (plan : Plan) (g : Compact) (c : Calm w ws ls plan
 
   -- by the same machine
   pub kept-strides : (r : Progress) → stepOf r ≡ o → PacedBy plan r → Transits g r → Strides w ws ls plan g ws′ ls′ r
-  kept-strides r e p t = record { strode = one (rw e move-advances); paced = p; marks = transits-marks w ws ls plan g r t }
+  kept-strides r e p t = record { strode = one (rw e move-advances); paced = p; marks = transits-marks w ws ls plan g r t; single = λ next event i. rw e move-advances }
 
 -- a value returns to a frame
 pub returning-returns : {w ws ls : List ℕ} {plan : Plan} {g : Compact} {v top kind : ℕ} {s : Registers} → Returning w ws ls plan g v top kind → s ≡ full g → Returns w ws ls plan s v top kind

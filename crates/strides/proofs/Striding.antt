@@ -78,6 +78,7 @@ module _ (w ws ls : List ℕ) (plan : Plan) (g : Compact) (s : Starts w ws ls pl
   many-strides to d k ws′ ls′ next e m n = rw e (record {
     strode = many (full (laterOf g to d k)) refl m (omega arith);
     marks = omega arith;
+    single = λ other event i. let no : _≡_ {A = ℕ} 0 1 = cc in absurd (omega arith);
     paced = record { since = omega (arith, s .paced .since); fuel = s .paced .fuel; calm = s .paced .calm };
   })
 
@@ -336,4 +337,4 @@ module _ (w ws ls : List ℕ) (plan : Plan) (g : Compact) (v top : ℕ) (q : Ret
 -- NO FRAME LEFT
 pub done-strides : (w ws ls : List ℕ) (plan : Plan) (g : Compact) → Calm w ws ls plan g → (v : ℕ) → g .control ≡ Ret v → g .depth ≡ 0 → Strides w ws ls plan g ws ls (Value v)
 unfolding stepOf PacedBy Marks
-done-strides w ws ls plan g c v e d = record { strode = one (move-advances w ws ls plan g c ws ls (step.Value v) (stepped-done w ws ls plan (full g) v e d)); paced = tt; marks = tt }
+done-strides w ws ls plan g c v e d = record { strode = one (move-advances w ws ls plan g c ws ls (step.Value v) (stepped-done w ws ls plan (full g) v e d)); paced = tt; marks = tt; single = λ next event i. let no : _≡_ {A = ℕ} 0 1 = cc in absurd (omega arith) }

@@ -80,11 +80,12 @@ Marks w ws ls plan g (Free next event) = Occurs w ws ls plan g next event
 Marks w ws ls plan g (Value v) = Unit {0}
 Marks w ws ls plan g (Halt h) = Unit {0}
 
--- A STRIDE by compact registers
+-- A STRIDE by compact registers; a free move is one step
 pub record Strides (w ws ls : List ℕ) (plan : Plan) (g : Compact) (ws′ ls′ : List ℕ) (r : Progress) : Type 0 where
   pub strode : Strode w ws ls plan (full g) ws′ ls′ (stepOf r)
   pub paced : PacedBy plan r
   pub marks : Marks w ws ls plan g r
+  pub single : (next : Compact) (event : Event) → r ≡ Free next event → Advanced w ws ls plan (full g) ws′ ls′ (stepOf r)
 
 -- A NODE that is evaluated, at the word `at` of the body that begins at `start`
 pub record Site (w ls : List ℕ) (g : Compact) (seat : Seat) (start at : ℕ) : Type 0 where
