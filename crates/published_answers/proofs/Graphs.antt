@@ -1,5 +1,5 @@
 -- Demand 2 covers the graph: demand 2 of the answer without a buffer, beside what a buffer changes, and the words of the graph that the derivation has.
-use Prim.Native.Nat.{ℕ, _-_, _≤_, _<_}
+use Prim.Native.Nat.{ℕ, _-_, _≤_}
 use mathlib.Core.Path.{_≡_, refl, ap, sym, _∙_}
 use mathlib.Core.List.{List, _++_}
 use native.Mathlib.Omega.{arith}
@@ -10,23 +10,21 @@ use Rattle.schedule.specs.Algebra.{graphs}
 use Rattle.schedule.specs.Machine as machine
 use Rattle.schedule.specs.Machine.{value, ended, Schedule, sequential, parallel, heartbeat}
 use Rattle.schedule.specs.Runs.{outcome}
-use Rattle.graph.specs.Lent.{nowhere}
 use Rattle.language.specs.declared.Counts.{Counts}
 use Rattle.language.specs.declared.Stop.{Stop}
-use Rattle.language.specs.declared.Answer.the-variants.{Value, Stopped, Refused}
+use Rattle.language.specs.declared.Answer.the-variants.{Stopped}
 use Rattle.language.specs.Language.{language}
 use Rattle.language.specs.Checks.{framesIn, checkedOf}
-use Rattle.language.specs.Answers.{entryCode, countsOf, stopped, answerOf}
+use Rattle.language.specs.Answers.{entryCode, countsOf, answerOf}
 use Rattle.graph_answers.specs.declared.Graphed.{Graphed}
 use Rattle.graph_answers.specs.Answers.{graphedOf, graphLeft}
 use Rattle.graph_answers.specs.AsWithout.{tooLong, needed, Beside}
-use Rattle.graph_answers.specs.Buffer.{RanTo}
 use Rattle.graph_answers.proofs.AsWithout.{needed-is, as-without}
 use Rattle.graph_answers.proofs.Buffer.{buffer-left, left-by-answer}
 use Rattle.published.specs.CostGraph.{work-of, span-of, fork-count, flat}
 use Rattle.published.specs.Adequacy.{Judgment, Reaches}
 use Rattle.published.proofs.Adequacy.{adequate}
-use Rattle.published_answers.specs.Answers.{judged, Counted, Published}
+use Rattle.published_answers.specs.Answers.{judged, Published}
 use Rattle.published_answers.specs.Graphs.{words-of, GivesGraph, DerivesGraph, DerivesTooLong, PublishedGraph, GraphOf, DemandTwoGraphs}
 use Rattle.published_answers.proofs.Answers.{by-schedule}
 
