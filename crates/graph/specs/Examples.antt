@@ -69,11 +69,12 @@ unfoldable pub computed : List Row → List Row
 computed [] = []
 computed (r ∷ rest) = row (r .graph) (written (r .graph)) ∷ computed rest
 
+abbrev lent-again : LentRow → Ending → LentRow
+lent-again r z = lent-row (r .lent) (r .without) z (words-told z beating) (left-in (r .lent) z beating)
+
 unfoldable pub computed-lent : List LentRow → List LentRow
 computed-lent [] = []
-computed-lent (r ∷ rest) = (
-  let z = ending-with (r .lent) (r .without) beating in lent-row (r .lent) (r .without) z (words-told z beating) (left-in (r .lent) z beating)
-) ∷ computed-lent rest
+computed-lent (r ∷ rest) = lent-again r (ending-with (r .lent) (r .without) beating) ∷ computed-lent rest
 
 -- THEOREMS (proofs/Examples.antt, `worked` and `lent-worked`).
 abbrev pub Worked : Type 0

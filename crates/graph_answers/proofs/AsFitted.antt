@@ -1,14 +1,14 @@
 -- The answer with a buffer, from the answer without one and the number of words.
 use Prim.Native.Nat.{ℕ, _≤_, _<_}
-use mathlib.Core.Path.{_≡_, refl, sym}
+use mathlib.Core.Path.{_≡_, refl}
 use mathlib.Core.Bool.{Bool, true, false}
-use mathlib.Core.Logic.{_⊎_, inl, inr}
+use mathlib.Core.Logic.{inl, inr}
 use mathlib.Core.List.{List}
 use native.Mathlib.Omega.{arith}
 use lib.Dec.{leb}
 use lib.ListN.{length}
-use borrow.Author.Tests.{leb-true, leb-false, le-leb, lt-leb}
-use Rattle.schedule.specs.Graph.{Graph, work, span}
+use borrow.Author.Tests.{leb-true, le-leb, lt-leb}
+use Rattle.schedule.specs.Graph.{Graph}
 use Rattle.schedule.specs.Algebra.{graphs}
 use Rattle.schedule.specs.Machine.{value, stop, RunCounts, Result, ended, ongoing, Schedule}
 use Rattle.schedule.specs.Runs.{outcome}
@@ -21,7 +21,7 @@ use Rattle.language.specs.declared.Answer.{Answer}
 use Rattle.language.specs.declared.Answer.the-variants.{Value, Stopped, Refused}
 use Rattle.language.specs.Language.{language}
 use Rattle.language.specs.Checks.{framesIn, checkedOf}
-use Rattle.language.specs.Answers.{entryCode, countsOf, stopped, toldBy, afterCheck, runOf, answerOf}
+use Rattle.language.specs.Answers.{entryCode, stopped, toldBy, afterCheck, runOf, answerOf}
 use Rattle.graph.specs.Words.{written}
 use Rattle.graph.specs.Lent.{nowhere, ending-with, words-told}
 use Rattle.graph_answers.specs.declared.Graphed.{Graphed}
@@ -53,7 +53,8 @@ module _ (w : List ℕ) (τ lent n : ℕ) where
   with-buffer o = record { answer = toldBy τ (lentTo lent o); words = wordsOf (lentTo lent o) }
 
   at-value : (v : ℕ) (g : Graph) (t : RunCounts) (q : Bool) → leb (length (written g)) lent ≡ q
-      → Serves lent n (length (written g)) → fittedOf (toldBy {X = Result graphs (language w)} τ (ended (value v) g t)) n lent ≡ with-buffer (ended (value v) g t)
+      → Serves lent n (length (written g))
+      → fittedOf (toldBy {X = Result graphs (language w)} τ (ended (value v) g t)) n lent ≡ with-buffer (ended (value v) g t)
   unfolding fittedOf toldBy lentTo wordsOf ending-with words-told
   at-value v g t true q (inl e) = simp (e, q)
   at-value v g t false q (inl e) = simp (e, q)

@@ -29,7 +29,7 @@ use Rattle.language.proofs.Values.{value-ran}
 use Rattle.graph_answers.specs.declared.Graphed.{Graphed}
 use Rattle.graph_answers.specs.Answers.{wordsOf, graphedOf}
 use Rattle.graph_answers.specs.Fitted.{fittedOf}
-use Rattle.graph_answers.specs.AsWithout.{tooLong, needed, ValueTooLong, Beside, AsWithout, NeverEmpty, EmptyBuffer}
+use Rattle.graph_answers.specs.AsWithout.{tooLong, needed, Beside, AsWithout, NeverEmpty, EmptyBuffer}
 use Rattle.graph_answers.proofs.AsFitted.{as-fitted, too-long}
 
 -- Two answers that cannot be equal.
@@ -47,7 +47,8 @@ stop-refused e = let no : _≡_ {A = ℕ} 0 1 = cc in omega arith
 
 -- A value that fits stays, one that does not is 25.
 module _ (lent n v : ℕ) (k : Counts) where
-  value-beside : (q : Bool) → leb n lent ≡ q → Beside lent n (Value v k) (cond q (record { answer = Value v k; words = n }) (record { answer = tooLong k; words = 0 }))
+  value-beside : (q : Bool) → leb n lent ≡ q
+      → Beside lent n (Value v k) (cond q (record { answer = Value v k; words = n }) (record { answer = tooLong k; words = 0 }))
   value-beside true q = record {
     value-iff = λ u l. (λ e. (e, omega (arith, leb-true n lent q)), λ e. e .0);
     words-at-value = λ u l e. refl;

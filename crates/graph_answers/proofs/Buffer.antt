@@ -23,7 +23,7 @@ use Rattle.language.specs.Checks.{framesIn, checkedOf}
 use Rattle.language.specs.Answers.{entryCode, toldBy, afterCheck}
 use Rattle.language.proofs.Told.{ran-unrefused}
 use Rattle.graph_answers.specs.Answers.{lentTo, bufferOf, lentRun, unlessRefused, graphedOf, graphLeft}
-use Rattle.graph_answers.specs.Buffer.{LeftLong, BufferLeft, LeftByAnswerAlways}
+use Rattle.graph_answers.specs.Buffer.{LeftLong, RanTo, BufferLeft, LeftByAnswerAlways}
 
 -- By what the check says.
 module _ (m : Schedule) (w arguments : List ℕ) (fuel N τ workspace : ℕ) (found : List ℕ) where
@@ -69,10 +69,14 @@ pub buffer-left : BufferLeft
 unfolding ending-with left-in
 buffer-left m w arguments fuel N τ workspace found = record {
   at-refusal = left-refused m w arguments fuel N τ workspace found;
-  at-value = λ v g t r h. rw (left-run m w arguments fuel N τ workspace found (value v) g t (r .accepted) (r .is), le-leb (length (written g)) (length found) h);
-  at-25 = λ v g t r h. rw (left-run m w arguments fuel N τ workspace found (value v) g t (r .accepted) (r .is), lt-leb (length (written g)) (length found) h);
-  at-stop = λ i p g t r. rw (left-run m w arguments fuel N τ workspace found (stop i p) g t (r .accepted) (r .is));
+  at-value = λ v g t r h. rw (ran (value v) g t r, le-leb (length (written g)) (length found) h);
+  at-25 = λ v g t r h. rw (ran (value v) g t r, lt-leb (length (written g)) (length found) h);
+  at-stop = λ i p g t r. rw (ran (stop i p) g t r);
 }
+  where
+    ran : (z : Ending) (g : Graph) (t : RunCounts) → RanTo m w arguments fuel N τ workspace z g t
+        → graphLeft m w arguments fuel N τ workspace found ≡ left-in (length found) (ending-with (length found) z g) g
+    ran z g t r = left-run m w arguments fuel N τ workspace found z g t (r .accepted) (r .is)
 
 -- By the answer: after a stop all is zero, and a refusal is the check's.
 module _ (w : List ℕ) (τ lent : ℕ) where

@@ -1,5 +1,5 @@
 -- Demand 3 of the three answers with buffers lent, from the claim without: each machine's run is the same.
-use Prim.Native.Nat.{ℕ, _≤_, _<_}
+use Prim.Native.Nat.{ℕ, _≤_}
 use mathlib.Core.Path.{_≡_, refl, ap, sym, _∙_}
 use mathlib.Core.Logic.{_⊎_, inl, inr, ⊎-elim}
 use mathlib.Core.List.{List}
@@ -12,7 +12,7 @@ use Rattle.schedule.proofs.Values.{at-every-value}
 use Rattle.language.specs.declared.Counts.{Counts}
 use Rattle.language.specs.declared.Stop.{Stop}
 use Rattle.language.specs.declared.Answer.{Answer}
-use Rattle.language.specs.declared.Answer.the-variants.{Value, Stopped}
+use Rattle.language.specs.declared.Answer.the-variants.{Value}
 use Rattle.language.specs.Language.{language}
 use Rattle.language.specs.Checks.{framesIn}
 use Rattle.language.specs.Answers.{entryCode, answerOf, deepestOf}
@@ -22,12 +22,13 @@ use Rattle.language.proofs.Claim.{claim, same-depth, stops-agree}
 use Rattle.language.proofs.Stops.{stops-listed}
 use Rattle.language.proofs.Values.{value-ran}
 use Rattle.graph_answers.specs.Answers.{graphedOf}
-use Rattle.graph_answers.specs.AsWithout.{tooLong, needed, Beside}
+use Rattle.graph_answers.specs.AsWithout.{needed, Beside}
 use Rattle.graph_answers.specs.Claim.{Not25, answerLent, LentForEveryInput, ValueOr25, Or25ForEveryInput, DepthLent, StopsAgreeLent, Told25, StopsListedLent}
 use Rattle.graph_answers.proofs.AsWithout.{as-without}
 
 module _ (m : Schedule) (w arguments : List ℕ) (fuel N τ workspace lent : ℕ) where
-  abbrev same : Beside lent (needed m w arguments fuel workspace) (answerOf m w arguments fuel N τ workspace) (graphedOf m w arguments fuel N τ workspace lent)
+  abbrev same : Beside lent (needed m w arguments fuel workspace) (answerOf m w arguments fuel N τ workspace)
+      (graphedOf m w arguments fuel N τ workspace lent)
   same = as-without m w arguments fuel N τ workspace lent
 
   value-or-25 : (v : ℕ) (k : Counts) → answerOf m w arguments fuel N τ workspace ≡ Value v k
@@ -38,7 +39,8 @@ module _ (m : Schedule) (w arguments : List ℕ) (fuel N τ workspace lent : ℕ
       by true q = inl (same .value-iff v k .1 (e, omega (arith, leb-true (needed m w arguments fuel workspace) lent q)))
       by false q =
           let s : Stop = record { number = 25; function = 0; node = 0; transitions = k .transitions; deepest = k .deepest } in
-          inr (same .at-25-iff s refl .1 (record { v = v; k = k; was = e; over = omega (arith, leb-false (needed m w arguments fuel workspace) lent q); is = refl }))
+          let over = leb-false (needed m w arguments fuel workspace) lent q in
+          inr (same .at-25-iff s refl .1 (record { v = v; k = k; was = e; over = omega arith; is = refl }))
 
   -- the depth is the run's, at 25 too
   depth-kept : (v : ℕ) (k : Counts) → answerOf m w arguments fuel N τ workspace ≡ Value v k
@@ -47,7 +49,8 @@ module _ (m : Schedule) (w arguments : List ℕ) (fuel N τ workspace lent : ℕ
   depth-kept v k e = ⊎-elim (λ f. ap deepestOf (f ∙ sym e)) (λ f. ap deepestOf f ∙ sym (ap deepestOf e)) (value-or-25 v k e)
 
   -- a stop that is not 25 is the same
-  stop-kept : (s : Stop) → s .number ≤ 24 → SameStop s (answerOf m w arguments fuel N τ workspace) → SameStop s (answerLent m w arguments fuel N τ workspace lent)
+  stop-kept : (s : Stop) → s .number ≤ 24 → SameStop s (answerOf m w arguments fuel N τ workspace)
+      → SameStop s (answerLent m w arguments fuel N τ workspace lent)
   stop-kept s most t = record {
     other = t .other;
     is = same .stop-iff (t .other) (λ h. omega (arith, most, t .number)) .1 (t .is);

@@ -1,7 +1,7 @@
--- The proofs of what specs/ states.
+-- The proofs of what specs/ states. Another crate cites them so: `use Rattle.graph_answers.proofs.Claim.{claim-lent}`.
 pub mod AsFitted
 pub mod AsWithout
-pub mod Claim
 pub mod Buffer
+pub mod Claim
 pub mod Reported
 pub mod Examples

@@ -1,12 +1,12 @@
 -- The graph in the buffer is the one reported.
-use Prim.Native.Nat.{ℕ, _-_, _≤_}
-use mathlib.Core.Path.{_≡_, refl, ap, sym, _∙_}
+use Prim.Native.Nat.{ℕ, _-_}
+use mathlib.Core.Path.{_≡_, ap, sym, _∙_}
 use mathlib.Core.List.{List, _++_}
 use native.Mathlib.Omega.{arith}
 use lib.ListN.{length, take, drop, replicate, length-append, length-replicate}
 use lib.Seq.{take-append-seam, drop-append-seam}
 use Rattle.schedule.specs.Graph.{Graph, work, span}
-use Rattle.schedule.specs.Machine.{value, RunCounts, Schedule}
+use Rattle.schedule.specs.Machine.{value, Schedule}
 use Rattle.table.specs.declared.Reading.the-variants as reading
 use Rattle.graph.specs.Words.{written, words-work, words-span}
 use Rattle.graph.proofs.Words.{worked-out}
@@ -17,7 +17,7 @@ use Rattle.language.specs.Answers.{answerOf}
 use Rattle.language.proofs.Admission.{checked-iff}
 use Rattle.language.proofs.House.{value-admitted}
 use Rattle.language.proofs.Values.{value-ran}
-use Rattle.graph_answers.specs.Answers.{graphedOf, graphLeft}
+use Rattle.graph_answers.specs.Answers.{graphedOf}
 use Rattle.graph_answers.specs.Buffer.{RanTo}
 use Rattle.graph_answers.specs.Reported.{Reported, ReportedAtValue}
 use Rattle.graph_answers.proofs.AsWithout.{needed-is, as-without}

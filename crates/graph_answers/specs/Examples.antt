@@ -38,7 +38,7 @@ row machine table fuel N frames found answer words left = record {
 }
 
 -- A buffer of so many words with something in it, and one of zeros.
-abbrev garbage : ℕ → List ℕ
+abbrev pub garbage : ℕ → List ℕ
 garbage n = replicate n 4294967295
 
 abbrev zeros : ℕ → List ℕ
@@ -68,7 +68,7 @@ two-forks =
     ∷ []
 
 -- "Table A on heartbeat with N 3 gives 0 3 1 2 2 0 4 0 1 0 1."
-abbrev words-of-A : List ℕ
+abbrev pub words-of-A : List ℕ
 words-of-A = 0 ∷ 3 ∷ 1 ∷ 2 ∷ 2 ∷ 0 ∷ 4 ∷ 0 ∷ 1 ∷ 0 ∷ 1 ∷ []
 
 -- THE ROWS: machine, table, fuel, N, frames, the buffer before; answer, number of words, the buffer after. τ is 2, and there are no arguments.

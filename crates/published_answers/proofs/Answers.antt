@@ -40,14 +40,14 @@ counts-of other (Stopped s) = other
 counts-of other (Refused r) = other
 
 -- What is told are numbers, in whatever way they are written.
-same-counts : {a b c d e a' b' c' d' e' : ℕ} → a ≡ a' → b ≡ b' → c ≡ c' → d ≡ d' → e ≡ e' → countsOf a b c d e ≡ countsOf a' b' c' d' e'
+pub same-counts : {a b c d e a' b' c' d' e' : ℕ} → a ≡ a' → b ≡ b' → c ≡ c' → d ≡ d' → e ≡ e' → countsOf a b c d e ≡ countsOf a' b' c' d' e'
 same-counts a b c d e = rw (a, b, c, d, e)
 
 same-stop : {i f n t h : ℕ} (s : Stop) → i ≡ s .number → f ≡ s .function → n ≡ s .node → t ≡ s .transitions → h ≡ s .deepest
     → stopped i (record { function = f; node = n }) t h ≡ Stopped s
 same-stop s a b c d e = rw (a, b, c, d, e)
 
-at-frames : {J : Judgment} {fuel frames frames' τ v : ℕ} {k : Counts} → Counted J fuel frames τ v k → frames ≡ frames'
+pub at-frames : {J : Judgment} {fuel frames frames' τ v : ℕ} {k : Counts} → Counted J fuel frames τ v k → frames ≡ frames'
     → Counted J fuel frames' τ v k
 at-frames c e = rw e at c
 

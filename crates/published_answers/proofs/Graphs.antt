@@ -1,5 +1,5 @@
 -- Demand 2 covers the graph: demand 2 of the answer without a buffer, beside what a buffer changes, and the words of the graph that the derivation has.
-use Prim.Native.Nat.{ℕ, _-_, _≤_, _<_}
+use Prim.Native.Nat.{ℕ, _-_, _≤_}
 use mathlib.Core.Path.{_≡_, refl, ap, sym, _∙_}
 use mathlib.Core.List.{List, _++_}
 use native.Mathlib.Omega.{arith}
@@ -10,17 +10,15 @@ use Rattle.schedule.specs.Algebra.{graphs}
 use Rattle.schedule.specs.Machine as machine
 use Rattle.schedule.specs.Machine.{value, ended, Schedule, sequential, parallel, heartbeat}
 use Rattle.schedule.specs.Runs.{outcome}
-use Rattle.graph.specs.Lent.{nowhere}
 use Rattle.language.specs.declared.Counts.{Counts}
 use Rattle.language.specs.declared.Stop.{Stop}
-use Rattle.language.specs.declared.Answer.the-variants.{Value, Stopped, Refused}
+use Rattle.language.specs.declared.Answer.the-variants.{Value, Stopped}
 use Rattle.language.specs.Language.{language}
 use Rattle.language.specs.Checks.{framesIn, checkedOf}
-use Rattle.language.specs.Answers.{entryCode, countsOf, stopped, answerOf}
+use Rattle.language.specs.Answers.{entryCode, countsOf, answerOf}
 use Rattle.graph_answers.specs.declared.Graphed.{Graphed}
 use Rattle.graph_answers.specs.Answers.{graphedOf, graphLeft}
 use Rattle.graph_answers.specs.AsWithout.{tooLong, needed, Beside}
-use Rattle.graph_answers.specs.Buffer.{RanTo}
 use Rattle.graph_answers.proofs.AsWithout.{needed-is, as-without}
 use Rattle.graph_answers.proofs.Buffer.{buffer-left, left-by-answer}
 use Rattle.published.specs.CostGraph.{work-of, span-of, fork-count, flat}
@@ -28,7 +26,7 @@ use Rattle.published.specs.Adequacy.{Judgment, Reaches}
 use Rattle.published.proofs.Adequacy.{adequate}
 use Rattle.published_answers.specs.Answers.{judged, Counted, Published}
 use Rattle.published_answers.specs.Graphs.{words-of, GivesGraph, DerivesGraph, DerivesTooLong, PublishedGraph, GraphOf, DemandTwoGraphs}
-use Rattle.published_answers.proofs.Answers.{by-schedule}
+use Rattle.published_answers.proofs.Answers.{same-counts, at-frames, by-schedule}
 
 -- Two lists of one length, with something after each: where the wholes are equal, so are they.
 same-front : (a b c d : List ℕ) → length a ≡ length b → a ++ c ≡ b ++ d → a ≡ b
@@ -43,6 +41,15 @@ module _ (m : Schedule) (w arguments : List ℕ) (fuel N τ workspace : ℕ) whe
 
   abbrev plain : Published m w arguments fuel N τ workspace (answerOf m w arguments fuel N τ workspace)
   plain = by-schedule m w arguments fuel N τ workspace
+
+  -- Demand 2 of the answer without a buffer.
+  value-derived : (v : ℕ) (k : Counts) → answerOf m w arguments fuel N τ workspace ≡ Value v k
+      → (checkedOf w (length arguments) fuel N τ workspace ≡ reading.Accepted) × Counted J fuel (framesIn workspace) τ v k
+  value-derived v k e = let c = plain .value-iff v k .0 e in ((cc), at-frames (c .1) (omega arith))
+
+  value-told : (v : ℕ) (k : Counts) → checkedOf w (length arguments) fuel N τ workspace ≡ reading.Accepted
+      → Counted J fuel (framesIn workspace) τ v k → answerOf m w arguments fuel N τ workspace ≡ Value v k
+  value-told v k a c = plain .value-iff v k .1 ((cc), at-frames c (omega arith))
 
   -- A derivation's counts, and the run that it is of.
   abbrev counts-of : {v : ℕ} → Reached v → Counts
@@ -76,7 +83,7 @@ module _ (m : Schedule) (w arguments : List ℕ) (fuel N τ workspace : ℕ) whe
         → DerivesGraph m w arguments fuel N τ workspace (length found) v k ws
     gives-derives v k ws g =
         let was = beside .value-iff v k .0 (g .answer-is) in
-        let c = plain .value-iff v k .0 (was .0) in
+        let c = value-derived v k (was .0) in
         let d = c .1 .reaches in
         let long = needs d in
         let same : length ws ≡ length (words-of (d .graph)) = sym (g .words-told) ∙ beside .words-at-value v k (g .answer-is) ∙ long in
@@ -95,7 +102,7 @@ module _ (m : Schedule) (w arguments : List ℕ) (fuel N τ workspace : ℕ) whe
         let long = needs d in
         let same : length ws ≡ length (words-of (d .graph)) = ap length (x .words-are) in
         let fits : length (words-of (d .graph)) ≤ length found = omega (arith, x .fits) in
-        let was = plain .value-iff v k .1 (x .accepted, x .counted) in
+        let was = value-told v k (x .accepted) (x .counted) in
         let answer = beside .value-iff v k .1 (was, omega arith) in
         record {
           answer-is = answer;
@@ -107,7 +114,7 @@ module _ (m : Schedule) (w arguments : List ℕ) (fuel N τ workspace : ℕ) whe
         → DerivesTooLong m w arguments fuel N τ workspace (length found) s
     stops-derives s h e =
         let t = beside .at-25-iff s h .0 e in
-        let c = plain .value-iff (t .v) (t .k) .0 (t .was) in
+        let c = value-derived (t .v) (t .k) (t .was) in
         let d = c .1 .reaches in
         let long = needs d in
         record {
@@ -123,13 +130,18 @@ module _ (m : Schedule) (w arguments : List ℕ) (fuel N τ workspace : ℕ) whe
     derives-stops s h x =
         let d = x .reaches in
         let long = needs d in
-        let was = plain .value-iff (x .v) (counts-of d) .1 (x .accepted, record { reaches = d; counts-are = refl }) in
+        let c : Counted J fuel (framesIn workspace) τ (x .v) (counts-of d)
+        = record { reaches = d; counts-are = same-counts refl refl (omega arith) (omega arith) refl } in
+        let was = value-told (x .v) (counts-of d) (x .accepted) c in
         beside .at-25-iff s h .1 (record { v = x .v; k = counts-of d; was = was; over = omega (arith, x .too-long); is = x .is })
 
     pub graph-published : GraphOf m w arguments fuel N τ workspace found
     graph-published = record {
       value-iff = λ v k ws. (gives-derives v k ws, derives-gives v k ws);
-      stop-iff = λ s h. (λ e. plain .stop-iff s .0 (beside .stop-iff s h .0 e), λ c. beside .stop-iff s h .1 (plain .stop-iff s .1 c));
+      stop-iff = λ s h. (
+        λ e. let c = plain .stop-iff s .0 (beside .stop-iff s h .0 e) in ((cc), c .1),
+        λ c. beside .stop-iff s h .1 (plain .stop-iff s .1 ((cc), c .1)),
+      );
       at-25-iff = λ s h. (stops-derives s h, derives-stops s h);
       refusal-iff = λ f. (λ e. plain .refusal-iff f .0 (beside .refusal-iff f .0 e), λ c. beside .refusal-iff f .1 (plain .refusal-iff f .1 c));
       after-stop = λ s e. (beside .no-words-at-stop s e, left-by-answer m w arguments fuel N τ workspace found .at-stop s e);

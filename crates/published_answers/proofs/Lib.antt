@@ -3,3 +3,4 @@ pub mod Answers
 pub mod Graphs
 mod Example
 mod StopExample
+mod GraphExample

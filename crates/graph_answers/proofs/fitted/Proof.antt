@@ -9,7 +9,9 @@ enum-known-answer : tie.Need-enum-known-answer
 enum-known-answer c = search needs
 
 returns : tie.Need-returns
-returns c = let a = c .before .before .before .before .args in fits (a .answer) (a .words) (a .room) _ _ (c .before .before .answer .given .1) (omega arith)
+returns c =
+    let a = c .before .before .before .before .args in
+    fits (a .answer) (a .words) (a .room) _ _ (c .before .before .answer .given .1) (omega arith)
 
 enum-told : tie.Need-enum-told
 enum-told c = search needs
@@ -18,7 +20,9 @@ enum-told-2 : tie.Need-enum-told-2
 enum-told-2 c = search needs
 
 returns-2 : tie.Need-returns-2
-returns-2 c = let a = c .before .before .before .before .args in too-long (a .answer) (a .words) (a .room) _ _ (c .before .before .answer .given .1) (omega arith)
+returns-2 c =
+    let a = c .before .before .before .before .args in
+    too-long (a .answer) (a .words) (a .room) _ _ (c .before .before .answer .given .1) (omega arith)
 
 returns-3 : tie.Need-returns-3
 returns-3 c = stop-fitted _ _ _ _ (c .enum-told .given .1)
