@@ -192,11 +192,12 @@ fn ending(a: &[u64]) -> usize {
     }
 }
 
-/// Of a run that stopped: whether so many words are fewer than what it had made until then needs. A fork that was joined has five.
-fn overrun(ran: &Ran, room: usize) -> bool {
-    let Answer::Stopped { transitions, .. } = ran.answer else { return false };
+/// The number of a run's stop, counted from 20, where so many words are fewer than what it had made until then needs. A fork that was
+/// joined has five or more.
+fn overrun(ran: &Ran, room: usize) -> Option<usize> {
+    let Answer::Stopped { number, transitions, .. } = ran.answer else { return None };
     let made = if ran.joined > 0 { 5 } else if transitions > 0 { 2 } else { 0 };
-    room < made
+    (room < made).then_some(number as usize - 20)
 }
 
 /// Which of the others are a 25 where the sequential answer is a value, and how many there are to be in a round of 20,000 jobs.
@@ -239,29 +240,30 @@ impl Buffers {
         let before: Vec<u64> = (0..lent + BEHIND).map(|_| dice.next()).collect();
         let (mut graph, mut answer) = (found.clone(), before.clone());
         let r = proved_graph(i as u32, j, self.workspace.fill(dice, j.workspace), &mut graph[..room], &mut answer[..lent]);
-        let (wanted, left, written) = (ran.lent_words(room), ran.leaves(&found[..room]), lent.min(LENT_WORDS));
+        let (wanted, mut left, written) = (ran.lent_words(room), ran.leaves(&found[..room]), lent.min(LENT_WORDS));
         if r != 0 || answer[..written] != wanted[..written] || answer[written..] != before[written..] {
             all.push(format!("{:?}, {room} words lent for the graph, {lent} for the answer: proved {r} {answer:?}, second {wanted:?}", ALL[i]));
         }
-        if graph[..room] != left || graph[room..] != found[room..] {
-            all.push(format!("{:?}, {room} words lent: the graph {graph:?}, second {left:?}", ALL[i]));
+        left.extend(&found[room..]);
+        if let Some(k) = (0..graph.len()).find(|k| graph[*k] != left[*k]) {
+            let shown = |words: &[u32]| format!("{:?}", &words[k..words.len().min(k + 20)]);
+            all.push(format!("{:?}, {room} words lent: the buffer from {k} on, proved {}, second {}", ALL[i], shown(&graph), shown(&left)));
         }
         if !self.workspace.left(wanted[0]) {
             all.push(format!("{:?}, {room} words lent for the graph: the workspace", ALL[i]));
         }
         if lent >= LENT_WORDS && answer[0] == 0 && !told_by(&graph[..room], &answer, j.tau) {
-            all.push(format!("{:?}: the costs of {graph:?} are not those of {answer:?}", ALL[i]));
+            all.push(format!("{:?}, {room} words lent: the words have not the costs of {answer:?}", ALL[i]));
         }
         self.note(i, ran, room, lent, &wanted);
         answer
     }
 
     fn note(&mut self, i: usize, ran: &Ran, room: usize, lent: usize, wanted: &LentWords) {
-        let ending = ending(wanted);
-        self.calls[i][ending][Room::of(room, ran) as usize] += 1;
+        self.calls[i][ending(wanted)][Room::of(room, ran) as usize] += 1;
         *self.answers.entry(lent).or_default() += 1;
-        if overrun(ran, room) {
-            self.overruns[i][ending - 1] += 1;
+        if let Some(stop) = overrun(ran, room) {
+            self.overruns[i][stop] += 1;
         }
     }
 
