@@ -3,9 +3,9 @@
 //! others have to agree with (02, P12) is looked at beside theirs, with the same fuel and frames. Each run is made with a buffer for its graph
 //! too (02, P1).
 use crate::agreement::{claimed, same};
+use crate::buffers::Buffers;
 use crate::depths::DEPTH;
 use crate::forms::{longest, Counts, Forms};
-use crate::graphs::Buffers;
 use crate::jobs::{Dice, Input};
 use crate::proved::Lent;
 use crate::second::{self, Answer, Job, Limits, Machine, Words, ALL};

@@ -3,6 +3,7 @@
 //! from the seed given. compare forms: the small jobs alone, from the fixed seed.
 mod agreement;
 mod boundaries;
+mod buffers;
 mod depths;
 mod faults;
 mod forms;
@@ -18,8 +19,8 @@ mod settled;
 mod small;
 
 use agreement::Agreement;
+use buffers::Buffers;
 use depths::{Depths, DEPTH};
-use graphs::Buffers;
 use jobs::{Dice, Input};
 use program::{Reports, Tally};
 use proved::{proved, proved_graph, Lent, BEHIND, FEWEST};
