@@ -411,15 +411,15 @@ fn number(m: Machine) -> usize {
     ALL.iter().position(|one| *one == m).unwrap()
 }
 
-/// The graphs of table A, in buffers with room for one word more.
+/// The graphs of table A, in buffers with room for one word more, and another behind that stays.
 fn settled_graphs() -> u64 {
     let mut bad = 0;
     for (machine, period, wanted) in settled::GRAPHS {
         let j = Input { table: settled::A.to_vec(), args: vec![], fuel: 100, period, tau: 2, workspace: 32 * 256 };
         let mine = by_second(machine, &j).graph;
-        let (mut ws, mut graph, mut answer) = (vec![5u64; j.workspace], vec![7u32; wanted.len() + 1], [9u64; LENT_WORDS]);
-        proved_graph(number(machine) as u32, &j, &mut ws, &mut graph, &mut answer);
-        if mine != wanted || graph != [wanted, &[0]].concat() || answer[WORDS] != wanted.len() as u64 {
+        let (mut ws, mut graph, mut answer) = (vec![5u64; j.workspace], vec![7u32; wanted.len() + 2], [9u64; LENT_WORDS]);
+        proved_graph(number(machine) as u32, &j, &mut ws, &mut graph[..wanted.len() + 1], &mut answer);
+        if mine != wanted || graph != [wanted, &[0, 7]].concat() || answer[WORDS] != wanted.len() as u64 {
             println!("SETTLED GRAPH {machine:?}, N {period}: proved {graph:?} of {} words, second {mine:?}, wanted {wanted:?}", answer[WORDS]);
             bad += 1;
         }
