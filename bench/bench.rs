@@ -4,6 +4,7 @@
 mod decode;
 mod fast;
 mod fused;
+mod graphs;
 mod jobs;
 #[path = "../tests/second/library.rs"]
 mod library;
@@ -235,6 +236,9 @@ fn main() {
     small_periods(&further[further.len() - jobs::small_periods().len()..]);
     let [depth, length] = depth_and_length(&mut sides, quick, repeats);
     acceptance(&mut sides);
+    let lent = graphs::measured(six.iter().chain(&further).map(|m| &m.job), repeats);
+    graphs::told(&lent);
+    let with_buffer = |few: bool| highest(&lent.iter().filter(|l| l.few_forks() == few).map(|l| l.ratio).collect::<Vec<_>>());
     let six_fast = ratios(&six, FAST, &ALL);
     let against = |machine: usize| highest(&six.iter().map(|m| m.per_transition(machine)[0]).collect::<Vec<_>>());
     use Wanted::*;
@@ -247,5 +251,7 @@ fn main() {
         ("the six, heartbeat against sequential per transition, highest", against(2), AtMost(1.25)),
         ("depth 4,000 against depth 10 per transition, highest", depth, AtMost(1.1)),
         ("10^8 against 10^6 transitions per transition, highest", length, AtMost(1.1)),
+        ("with a buffer for the graph against without, few forks, highest", with_buffer(true), AtMost(graphs::FEW_FORKS)),
+        ("with a buffer for the graph against without, more forks, highest", with_buffer(false), AtMost(graphs::MANY_FORKS)),
     ]);
 }

@@ -1,7 +1,9 @@
 //! Runs the jobs of `small` with every fuel, every number of frames and every N up to the end of any form, and compares them with the
 //! proved machines; counts which form was met at which boundary, and fails where one was not. Each stop of the sequential machine that the
-//! others have to agree with (02, P12) is looked at beside theirs, with the same fuel and frames.
+//! others have to agree with (02, P12) is looked at beside theirs, with the same fuel and frames. Each run is made with a buffer for its graph
+//! too (02, P1).
 use crate::agreement::{claimed, same};
+use crate::buffers::Buffers;
 use crate::depths::DEPTH;
 use crate::forms::{longest, Counts, Forms};
 use crate::jobs::{Dice, Input};
@@ -26,6 +28,7 @@ struct Runs {
     name: &'static str,
     dice: Dice,
     lent: Lent,
+    buffers: Buffers,
     /// The transitions of the longest form.
     longest: u64,
     jobs: u64,
@@ -37,15 +40,18 @@ struct Runs {
 
 impl Runs {
     fn new(name: &'static str, seed: u64) -> Runs {
-        Runs { name, dice: Dice(seed), lent: Lent::default(), longest: longest(), jobs: 0, runs: 0, stops: 0, bad: 0 }
+        Runs { name, dice: Dice(seed), lent: Lent::default(), buffers: Buffers::default(), longest: longest(), jobs: 0, runs: 0, stops: 0, bad: 0 }
     }
 
     fn one(&mut self, i: usize, r: &mut Rerun) -> Answer {
         let j = &r.input;
         let limits = Limits { fuel: j.fuel, period: j.period, tau: j.tau, frames: j.workspace / 32 };
-        let mine = second::run_accepted(ALL[i], r.job, &j.args, limits, Some(r.forms.machine(ALL[i])));
+        let ran = second::run_accepted(ALL[i], r.job, &j.args, limits, Some(r.forms.machine(ALL[i])));
+        let mine = ran.answer;
         self.runs += 1;
-        for what in self.lent.differences(&mut self.dice, i, j, mine.words()) {
+        let mut differences = self.lent.differences(&mut self.dice, i, j, mine.words());
+        differences.extend(self.buffers.any_room(&mut self.dice, i, j, &ran));
+        for what in differences {
             self.fail(j, what);
         }
         if ALL[i] == Machine::Sequential {
@@ -99,7 +105,7 @@ impl Runs {
     fn job(&mut self, small: Small, args: &[u64], periods: &[u64], counts: &mut Counts) {
         let plain = second::read(&small.table(0)).expect("an accepted table");
         let limits = Limits { fuel: PLENTY, period: PLENTY, tau: 1, frames: 4_096 };
-        let answer = second::run_accepted(Machine::Sequential, &plain, args, limits, None);
+        let answer = second::run_accepted(Machine::Sequential, &plain, args, limits, None).answer;
         let depth = answer.words()[DEPTH];
         self.after(&small, 0, args, periods, counts);
         let later: Vec<u64> = periods.iter().map(|n| (n + Small::before(depth)).min(PLENTY)).collect();
@@ -154,7 +160,12 @@ impl Runs {
             "{}: {} jobs, {} runs, {} stops beside the sequential machine's, {} disagreements",
             self.name, self.jobs, self.runs, self.stops, self.bad
         );
-        self.bad + (self.stops == 0) as u64
+        let unmet = self.buffers.unmet_by_small();
+        println!("  {} calls with a buffer for the graph, {} cases not met", self.buffers.count(), unmet.len());
+        for what in &unmet {
+            println!("  NOT MET {what}");
+        }
+        self.bad + (self.stops == 0) as u64 + unmet.len() as u64
     }
 }
 

@@ -3,9 +3,11 @@
 //! from the seed given. compare forms: the small jobs alone, from the fixed seed.
 mod agreement;
 mod boundaries;
+mod buffers;
 mod depths;
 mod faults;
 mod forms;
+mod graphs;
 mod inputs;
 mod jobs;
 mod library;
@@ -17,21 +19,23 @@ mod settled;
 mod small;
 
 use agreement::Agreement;
+use buffers::Buffers;
 use depths::{Depths, DEPTH};
 use jobs::{Dice, Input};
 use program::{Reports, Tally};
-use proved::{proved, Lent, BEHIND, FEWEST};
-use second::{Machine, Words, ALL, WORDS};
+use proved::{proved, proved_graph, Lent, BEHIND, FEWEST};
+use second::{Machine, Ran, Words, ALL, LENT_WORDS, WORDS};
 use std::collections::{BTreeMap, BTreeSet};
 
-fn by_second(m: Machine, j: &Input) -> Words {
-    second::run(m, &j.table, &j.args, j.fuel, j.period, j.tau, j.workspace).words()
+fn by_second(m: Machine, j: &Input) -> Ran {
+    second::run(m, &j.table, &j.args, j.fuel, j.period, j.tau, j.workspace)
 }
 
 /// What was compared, and what it was like.
 #[derive(Default)]
 struct Bench {
     lent: Lent,
+    buffers: Buffers,
     jobs: u64,
     bad: u64,
     kinds: BTreeMap<&'static str, u64>,
@@ -67,13 +71,26 @@ impl Bench {
         *self.answers.entry(what).or_default() += 1;
     }
 
-    /// The answer of one machine, by both implementations.
-    fn machine(&mut self, dice: &mut Dice, kind: &str, i: usize, j: &Input) -> Words {
+    /// One machine, by both implementations.
+    fn machine(&mut self, dice: &mut Dice, kind: &str, i: usize, j: &Input) -> Ran {
         let mine = by_second(ALL[i], j);
-        for what in self.lent.differences(dice, i, j, mine) {
+        for what in self.lent.differences(dice, i, j, mine.answer.words()) {
             self.fail(kind, j, what);
         }
         mine
+    }
+
+    /// The three machines again, with buffers lent for their graphs; sometimes each with buffers of every kind.
+    fn with_buffers(&mut self, dice: &mut Dice, kind: &str, j: &Input, rans: &[Ran; 3]) {
+        let mut differences = self.buffers.three(dice, j, rans);
+        if dice.one_in(8) {
+            for (i, ran) in rans.iter().enumerate() {
+                differences.extend(self.buffers.each_room(dice, i, j, ran));
+            }
+        }
+        for what in differences {
+            self.fail(kind, j, what);
+        }
     }
 
     /// Each machine that has a value, again: with as many frames as its depth its answer is the same, with one frame fewer it is stop 21.
@@ -81,14 +98,14 @@ impl Bench {
         for (i, a) in answers.into_iter().enumerate().filter(|(_, a)| a[0] == 0) {
             let mut t = j.clone();
             t.workspace = 32 * a[DEPTH].max(1) as usize;
-            let enough = self.machine(dice, "frames as the depth", i, &t);
+            let enough = self.machine(dice, "frames as the depth", i, &t).answer.words();
             self.depths.enough[i] += 1;
             if enough != a {
                 self.fail("frames as the depth", &t, format!("{:?}: {enough:?}, not {a:?}", ALL[i]));
             }
             if a[DEPTH] > 1 {
                 t.workspace -= 32;
-                let fewer = self.machine(dice, "one frame fewer", i, &t);
+                let fewer = self.machine(dice, "one frame fewer", i, &t).answer.words();
                 self.depths.fewer[i] += 1;
                 if fewer[..2] != [1, 21] {
                     self.fail("one frame fewer", &t, format!("{:?}: {fewer:?}, and with one more {a:?}", ALL[i]));
@@ -109,6 +126,10 @@ impl Bench {
                 self.fail(kind, j, format!("machine {m}, {room} answer words: {r}"));
             }
             *self.kinds.entry("not served").or_default() += 1;
+            let room = if room < FEWEST { room } else { dice.pick(&[FEWEST, WORDS, LENT_WORDS, LENT_WORDS + 1]) };
+            if let Some(what) = self.buffers.unserved(dice, m, j, room) {
+                self.fail(kind, j, what);
+            }
         }
     }
 
@@ -144,7 +165,9 @@ impl Bench {
     fn one(&mut self, dice: &mut Dice, reports: &Reports, kind: &'static str, j: &Input) -> [Words; 3] {
         self.jobs += 1;
         *self.kinds.entry(kind).or_default() += 1;
-        let answers = [0, 1, 2].map(|i| self.machine(dice, kind, i, j));
+        let rans = [0, 1, 2].map(|i| self.machine(dice, kind, i, j));
+        self.with_buffers(dice, kind, j, &rans);
+        let answers = rans.map(|ran| ran.answer.words());
         for i in 0..3 {
             self.note(ALL[i], answers[i]);
         }
@@ -296,7 +319,7 @@ impl Wants {
         self.places(b);
         self.of_round("numbers of frames".into(), b.frames.len(), 150);
         self.want("jobs with 1 frame and with 4,096".into(), [1, 4_096].iter().filter(|&f| b.frames.contains(f)).count(), 2);
-        for (what, have, least) in [b.depths.wanted(), b.agreement.wanted(), b.lent.wanted()].concat() {
+        for (what, have, least) in [b.depths.wanted(), b.agreement.wanted(), b.lent.wanted(), b.buffers.wanted()].concat() {
             self.of_round(what, have, least);
         }
         for kind in ["fuel exact", "fuel tight", "fuel at a stop", "frames tight", "mutated", "raw", "long", "random bytes", "short", "not served"] {
@@ -356,6 +379,7 @@ fn round(count: u64, seed: u64) -> u64 {
     b.depths.told();
     b.agreement.told();
     b.lent.told();
+    b.buffers.told();
     println!("  lines of reports: {:?}", reports.lines);
     println!("  0 for N, by the word for tau: {:?}", reports.by_default);
     println!("  faults at one node: {} tables, {} disagreements; {:?}", faults.jobs, faults.bad, faults.answers);
@@ -363,21 +387,44 @@ fn round(count: u64, seed: u64) -> u64 {
 }
 
 fn settled_runs() -> u64 {
-    let mut bad = 0;
+    let (mut bad, mut dice, mut buffers) = (0, Dice(FIXED_SEED), Buffers::default());
     let rows = settled::rows();
     for r in &rows {
         let j = Input { table: r.table.clone(), args: vec![], fuel: r.fuel, period: r.period, tau: r.tau, workspace: 32 * r.frames };
-        let mine = by_second(r.machine, &j);
+        let ran = by_second(r.machine, &j);
+        let mine = ran.answer.words();
         let mut ws = vec![5u64; j.workspace];
         let mut answer = [9u64; WORDS];
-        let m = ALL.iter().position(|m| *m == r.machine).unwrap() as u32;
-        proved(m, &j, &mut ws, &mut answer);
-        if answer != mine || !settled::meets(mine, r.wanted) || !settled::meets(answer, r.wanted) {
-            println!("SETTLED {} {:?}: proved {answer:?}, second {mine:?}, wanted {:?}", r.name, r.machine, r.wanted);
+        let m = number(r.machine);
+        proved(m as u32, &j, &mut ws, &mut answer);
+        let differences = buffers.each_room(&mut dice, m, &j, &ran);
+        if answer != mine || !settled::meets(mine, r.wanted) || !settled::meets(answer, r.wanted) || !differences.is_empty() {
+            println!("SETTLED {} {:?}: proved {answer:?}, second {mine:?}, wanted {:?} {differences:?}", r.name, r.machine, r.wanted);
             bad += 1;
         }
     }
     println!("settled runs: {} rows, {bad} bad", rows.len());
+    bad
+}
+
+fn number(m: Machine) -> usize {
+    ALL.iter().position(|one| *one == m).unwrap()
+}
+
+/// The graphs of table A, in buffers with room for one word more, and another behind that stays.
+fn settled_graphs() -> u64 {
+    let mut bad = 0;
+    for (machine, period, wanted) in settled::GRAPHS {
+        let j = Input { table: settled::A.to_vec(), args: vec![], fuel: 100, period, tau: 2, workspace: 32 * 256 };
+        let mine = by_second(machine, &j).graph;
+        let (mut ws, mut graph, mut answer) = (vec![5u64; j.workspace], vec![7u32; wanted.len() + 2], [9u64; LENT_WORDS]);
+        proved_graph(number(machine) as u32, &j, &mut ws, &mut graph[..wanted.len() + 1], &mut answer);
+        if mine != wanted || graph != [wanted, &[0, 7]].concat() || answer[WORDS] != wanted.len() as u64 {
+            println!("SETTLED GRAPH {machine:?}, N {period}: proved {graph:?} of {} words, second {mine:?}, wanted {wanted:?}", answer[WORDS]);
+            bad += 1;
+        }
+    }
+    println!("settled graphs: {} rows, {bad} bad", settled::GRAPHS.len());
     bad
 }
 
@@ -412,7 +459,7 @@ fn all() -> u64 {
         return small_jobs();
     }
     let count = words.get(1).map_or(20_000, |w| w.parse().expect("a number of jobs"));
-    let bad = settled_runs() + settled_report();
+    let bad = settled_runs() + settled_graphs() + settled_report();
     if let Some(seed) = words.get(2) {
         return bad + round(count, seed.parse().expect("a seed"));
     }

@@ -1,7 +1,7 @@
 //! The proved machines, through the static library of crate `capi`.
 use crate::depths::fits;
 use crate::jobs::{Dice, Input};
-use crate::library::mondupil_run;
+use crate::library::{mondupil_run, mondupil_run_graph};
 use crate::second::{Words, ALL, WORDS};
 use std::collections::BTreeMap;
 
@@ -14,15 +14,56 @@ pub fn proved(m: u32, j: &Input, ws: &mut [u64], answer: &mut [u64]) -> u32 {
     }
 }
 
+pub fn proved_graph(m: u32, j: &Input, ws: &mut [u64], graph: &mut [u32], answer: &mut [u64]) -> u32 {
+    unsafe {
+        mondupil_run_graph(
+            m, j.table.as_ptr(), j.table.len(), j.args.as_ptr(), j.args.len(), j.fuel, j.period, j.tau,
+            ws.as_mut_ptr(), ws.len(), graph.as_mut_ptr(), graph.len(), answer.as_mut_ptr(), answer.len(),
+        )
+    }
+}
+
 /// The fewest answer words that are served: an answer without its depth.
 pub const FEWEST: usize = 8;
 /// Words behind those that are lent; they stay as well.
 pub const BEHIND: usize = 4;
 
-/// A workspace that is lent again and again.
+/// A workspace that is lent again and again, full of garbage.
+#[derive(Default)]
+pub struct Workspace {
+    words: Vec<u64>,
+    garbage: u64,
+}
+
+impl Workspace {
+    /// The garbage of a place, which is never 0.
+    fn filled(&self, k: usize) -> u64 {
+        self.garbage.wrapping_mul(2 * k as u64 + 1) | 1
+    }
+
+    pub fn fill(&mut self, dice: &mut Dice, words: usize) -> &mut [u64] {
+        self.garbage = dice.next();
+        let mut filled = std::mem::take(&mut self.words);
+        filled.clear();
+        filled.extend((0..words).map(|k| self.filled(k)));
+        self.words = filled;
+        &mut self.words
+    }
+
+    pub fn as_found(&self) -> bool {
+        self.words.iter().enumerate().all(|(k, w)| *w == self.filled(k))
+    }
+
+    /// Whether it is as after an answer of this kind: as found after a refusal, zero after a value or a stop.
+    pub fn left(&self, kind: u64) -> bool {
+        if kind == 2 { self.as_found() } else { self.words.iter().all(|w| *w == 0) }
+    }
+}
+
+/// Calls without a buffer for the graph.
 #[derive(Default)]
 pub struct Lent {
-    workspace: Vec<u64>,
+    workspace: Workspace,
     /// How often so many answer words were lent.
     rooms: BTreeMap<usize, u64>,
 }
@@ -59,11 +100,7 @@ impl Lent {
     /// Workspace and answer are full of garbage. As many words of the answer as are lent are written, and no others.
     fn with_room(&mut self, dice: &mut Dice, i: usize, j: &Input, wanted: Words, room: usize) -> Vec<String> {
         *self.rooms.entry(room).or_default() += 1;
-        let garbage = dice.next();
-        let filled = |k: usize| garbage.wrapping_mul(2 * k as u64 + 1) | 1;
-        let ws = &mut self.workspace;
-        ws.clear();
-        ws.extend((0..j.workspace).map(filled));
+        let ws = self.workspace.fill(dice, j.workspace);
         let before: Vec<u64> = (0..room + BEHIND).map(|_| dice.next()).collect();
         let mut answer = before.clone();
         let r = proved(i as u32, j, ws, &mut answer[..room]);
@@ -72,8 +109,7 @@ impl Lent {
         if r != 0 || answer[..written] != wanted[..written] || answer[written..] != before[written..] {
             all.push(format!("{:?}, {room} words lent: proved {r} {answer:?}, second {wanted:?}", ALL[i]));
         }
-        let kept = |(k, w): (usize, &u64)| if wanted[0] == 2 { *w == filled(k) } else { *w == 0 };
-        if !ws.iter().enumerate().all(kept) {
+        if !self.workspace.left(wanted[0]) {
             all.push(format!("{:?}: the workspace", ALL[i]));
         }
         all

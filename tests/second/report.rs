@@ -62,7 +62,7 @@ fn breadth(sequential: Answer, parallel: Answer) -> String {
 
 fn told(input: &[u8]) -> String {
     let Some(a) = asked(input) else { return refused(1, 0, 0) };
-    let run = |m| second::run(m, &a.table, &a.args, a.fuel, a.period, a.tau, 32 * FRAMES);
+    let run = |m| second::run(m, &a.table, &a.args, a.fuel, a.period, a.tau, 32 * FRAMES).answer;
     let sequential = run(Machine::Sequential);
     if let Answer::Refused { number, function, node } = sequential {
         return refused(number, function, node);

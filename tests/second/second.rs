@@ -1,4 +1,4 @@
-//! A second implementation of document 01 with document 02's P4 and P7, written from the documents alone.
+//! A second implementation of document 01 with document 02's P1, P4 and P7, written from the documents alone.
 //! Sequential: a recursive evaluator. Parallel and heartbeat: big-step
 //! judgments, one Rust call for each machine, an explicit stack in each,
 //! and a real cost graph that is priced at the end.
@@ -239,6 +239,28 @@ impl Graph {
             })
             .sum()
     }
+    /// Its words: a stretch is 0 and its transitions, a fork 1, the lengths of left and right, and these two; a sequence its parts.
+    fn words(&self) -> Vec<u32> {
+        let mut words = Vec::new();
+        self.write_backwards(&mut words);
+        words.reverse();
+        words
+    }
+    /// From the last word to the first, so that a length is known when it is written; how many words.
+    fn write_backwards(&self, words: &mut Vec<u32>) -> u32 {
+        let before = words.len();
+        for part in self.0.iter().rev() {
+            match part {
+                Part::Steps(n) => words.extend([*n as u32, 0]),
+                Part::Fork(g, h) => {
+                    let right = h.write_backwards(words);
+                    let left = g.write_backwards(words);
+                    words.extend([right, left, 1]);
+                }
+            }
+        }
+        (words.len() - before) as u32
+    }
 }
 
 // --------------------------------------------------------------- machines
@@ -288,6 +310,8 @@ struct World<'j> {
     occupied: usize,
     /// The largest number of frames occupied at once.
     deepest: usize,
+    /// The forks that were joined.
+    joined: u64,
     period: u64,
     beat: Option<Beat>,
     watch: Option<&'j mut (dyn Watch + 'j)>,
@@ -541,6 +565,7 @@ impl<'j> World<'j> {
                     let (y, h) = self.parallel(r, locals.clone())?;
                     self.occupied -= 1;
                     graph.0.push(Part::Fork(g, h));
+                    self.joined += 1;
                     Evaluate(body, with(&locals, &[x, y]))
                 }
                 other => {
@@ -569,6 +594,7 @@ impl<'j> World<'j> {
                     let (y, h) = self.heartbeat(Evaluate(right, locals.clone()), Vec::new())?;
                     self.occupied -= 1;
                     graph.0.push(Part::Fork(g, h));
+                    self.joined += 1;
                     state = Evaluate(body, with(&locals, &[x, y]));
                     credits = 0;
                     continue;
@@ -620,6 +646,47 @@ impl Answer {
     }
 }
 
+/// A run: its answer; the words of its cost graph, none unless it ended in a value; and the forks that were joined until it ended.
+pub struct Ran {
+    pub answer: Answer,
+    pub graph: Vec<u32>,
+    pub joined: u64,
+}
+
+/// The words of an answer where a buffer is lent for the graph: as without, and then how many words of the graph were written.
+pub const LENT_WORDS: usize = WORDS + 1;
+pub type LentWords = [u64; LENT_WORDS];
+
+impl Ran {
+    /// The answer where so many words are lent for the graph. That it does not fit is looked at after every other stop.
+    fn lent(&self, room: usize) -> Answer {
+        match self.answer {
+            Answer::Value { transitions, deepest, .. } if self.graph.len() > room => {
+                Answer::Stopped { number: 25, function: 0, node: 0, transitions, deepest }
+            }
+            other => other,
+        }
+    }
+
+    pub fn lent_words(&self, room: usize) -> LentWords {
+        let answer = self.lent(room);
+        let written = if let Answer::Value { .. } = answer { self.graph.len() as u64 } else { 0 };
+        let mut words = [written; LENT_WORDS];
+        words[..WORDS].copy_from_slice(&answer.words());
+        words
+    }
+
+    /// What is left in a buffer that was found so.
+    pub fn leaves(&self, found: &[u32]) -> Vec<u32> {
+        let zeros = vec![0; found.len()];
+        match self.lent(found.len()) {
+            Answer::Value { .. } => [&self.graph, &zeros[self.graph.len()..]].concat(),
+            Answer::Stopped { .. } => zeros,
+            Answer::Refused { .. } => found.to_vec(),
+        }
+    }
+}
+
 fn check(job: &Job, args: &[u64], fuel: u64, period: u64, tau: u64, workspace: usize) -> Result<(), Refusal> {
     if args.len() != job.arities[0] {
         return refuse(7, 0, 0);
@@ -648,17 +715,21 @@ pub struct Limits {
     pub frames: usize,
 }
 
-pub fn run(m: Machine, table: &[u32], args: &[u64], fuel: u64, period: u64, tau: u64, workspace: usize) -> Answer {
+pub fn run(m: Machine, table: &[u32], args: &[u64], fuel: u64, period: u64, tau: u64, workspace: usize) -> Ran {
     let accepted = read(table).and_then(|job| check(&job, args, fuel, period, tau, workspace).map(|()| job));
     match accepted {
         Ok(job) => run_accepted(m, &job, args, Limits { fuel, period, tau, frames: workspace / 32 }, None),
-        Err(r) => Answer::Refused { number: r.number, function: r.function, node: r.node },
+        Err(r) => refused(r),
     }
 }
 
-pub fn run_accepted<'j>(m: Machine, job: &'j Job, args: &[u64], limits: Limits, watch: Option<&'j mut (dyn Watch + 'j)>) -> Answer {
+fn refused(r: Refusal) -> Ran {
+    Ran { answer: Answer::Refused { number: r.number, function: r.function, node: r.node }, graph: vec![], joined: 0 }
+}
+
+pub fn run_accepted<'j>(m: Machine, job: &'j Job, args: &[u64], limits: Limits, watch: Option<&'j mut (dyn Watch + 'j)>) -> Ran {
     let Limits { fuel, period, tau, frames } = limits;
-    let mut world = World { job, fuel, made: 0, frames, occupied: 0, deepest: 0, period, beat: None, watch };
+    let mut world = World { job, fuel, made: 0, frames, occupied: 0, deepest: 0, joined: 0, period, beat: None, watch };
     let entry = &job.bodies[0];
     let locals: Locals = Rc::new(args.to_vec());
     let ended = match m {
@@ -669,13 +740,15 @@ pub fn run_accepted<'j>(m: Machine, job: &'j Job, args: &[u64], limits: Limits, 
         Machine::Parallel => world.parallel(entry, locals),
         Machine::Heartbeat => world.heartbeat(Evaluate(entry, locals), Vec::new()),
     };
-    let (transitions, deepest) = (world.made, world.deepest as u64);
-    match ended {
+    let (transitions, deepest, joined) = (world.made, world.deepest as u64, world.joined);
+    let (answer, graph) = match ended {
         Ok((value, g)) => {
             assert_eq!(world.occupied, 0);
             assert_eq!(g.steps(), transitions);
-            Answer::Value { value, transitions, forks: g.forks(), work: g.work(tau), span: g.span(tau), deepest }
+            let answer = Answer::Value { value, transitions, forks: g.forks(), work: g.work(tau), span: g.span(tau), deepest };
+            (answer, g.words())
         }
-        Err(s) => Answer::Stopped { number: s.number, function: s.function, node: s.node, transitions, deepest },
-    }
+        Err(s) => (Answer::Stopped { number: s.number, function: s.function, node: s.node, transitions, deepest }, vec![]),
+    };
+    Ran { answer, graph, joined }
 }

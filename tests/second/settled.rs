@@ -1,6 +1,6 @@
 //! Document 01's settled runs, starred or not, as rows
 //! (name, machines, table, fuel, N, tau, frames, the nine words wanted; None = not told),
-//! and its settled report, with the breadth and the depth of document 02 (P6, P7).
+//! and its settled report, with the breadth and the depth of document 02 (P6, P7); and the graphs of its table A (02, P1).
 use crate::second::Machine::{self, *};
 use crate::second::{Words, WORDS};
 
@@ -19,6 +19,17 @@ pub struct Row {
 
 pub const A: [u32; 31] = [
     1, 0, 7, 6, 0, 5, 6, 6, 0, 3, 4, 0, 3, 0, 0, 0, 4, 0, 0, 1, 1, 0, 0, 0, 5, 0, 0, 1, 0, 0, 0,
+];
+
+/// The graphs of table A, with fuel 100, tau 2 and 256 frames: a machine, N and the words. The third is document 02's; the others are worked
+/// by hand. In the last the left branch is empty: its value returns when the fork is promoted.
+pub const GRAPHS: [(Machine, u64, &[u32]); 6] = [
+    (Sequential, 3, &[0, 11]),
+    (Parallel, 3, &[1, 9, 2, 1, 2, 2, 0, 1, 0, 1, 0, 1, 0, 1, 0, 1]),
+    (Heartbeat, 3, &[0, 3, 1, 2, 2, 0, 4, 0, 1, 0, 1]),
+    (Heartbeat, 1, &[0, 1, 1, 11, 2, 0, 1, 1, 2, 2, 0, 1, 0, 1, 0, 1, 0, 1, 0, 1]),
+    (Heartbeat, 10_000, &[0, 11]),
+    (Heartbeat, 7, &[0, 7, 1, 0, 2, 0, 1, 0, 1]),
 ];
 
 pub const REPORT: &str = "\
