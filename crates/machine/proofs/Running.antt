@@ -242,6 +242,11 @@ module _ {w arguments : List ℕ} {size : ℕ} {plan : Plan} {ws ls : List ℕ} 
         on (one a) = ended-so a
         on (many n f m y) = absurd (stays n f)
 
+-- of an enum's tag, as the code's match tells it: it is not one of the first two
+pub neither : (k : ℕ) → k < 2 → (k ≡ 2) ⊎ (k ≡ 3) → ⊥
+neither k h (inl e) = absurd (omega arith)
+neither k h (inr e) = absurd (omega arith)
+
 -- WHERE A STRIDE GOES ON, by its variant
 pub goes-on : {plan : Plan} {o : Progress} {next : Compact} → o ≡ progress.Go next → PacedBy plan o → (stepOf o ≡ Go (full next)) × Paced plan next
 unfolding stepOf PacedBy

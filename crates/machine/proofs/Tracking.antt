@@ -50,13 +50,13 @@ use Rattle.compact.specs.declared.Event.{Event}
 use Rattle.compact.specs.declared.Event.the-variants.{Fork, Turn, Join}
 use Rattle.compact.specs.declared.Progress.{Progress}
 use Rattle.compact.specs.declared.Progress.the-variants as progress
-use Rattle.compact.specs.Compact.{full, stepOf, compactOf}
+use Rattle.compact.specs.Compact.{full, stepOf, Paced, compactOf}
 use Rattle.strides.specs.Strides.{Many, Starts, Calm, Returning, Forks, promoted, born, Occurs, Marks, Strides}
 use Rattle.marks.specs.Marks.{Small, Framed, Markable, placesMarked, graphMarked, countMarked, Marked}
 use Rattle.machine.specs.Runs.{begun, Begins}
 use Rattle.machine.specs.Written.{Finished, Holds, Wrote}
-use Rattle.machine.proofs.Places.{placeAt, rightAt, Alike, alike-placed, alike-right, place-kept, place-other, place-right, right-kept, right-other, right-place, oldest-is}
-use Rattle.machine.proofs.Running.{Running, to-go, one-many, strode-exact, advances, last-step}
+use Rattle.machine.proofs.Places.{placeAt, rightAt, Alike, alike-placed, alike-right, place-kept, place-other, place-right, right-kept, right-other, right-place, ready-alike, oldest-is}
+use Rattle.machine.proofs.Running.{Running, to-go, one-many, strode-exact, advances, running-less, running-next, last-step, goes-free, running-alike}
 
 -- the counts of a state
 unfoldable forked : {M : FrameMachine} → State graphs M → ℕ
@@ -514,6 +514,24 @@ module _ {w arguments : List ℕ} {size : ℕ} {plan : Plan} {ws ls : List ℕ} 
           tracked : 0 < length lent′ → Dec (0 < length lent) → TracksState (language w) lent′ n′ (placeAt ws″) (rightAt ws″) H
           tracked h (yes l) = let y = x .some l in rw (y .0, y .1, y .2) (tracked-by event occurs l)
           tracked h (no l) = let y = x .none (omega arith) in absurd (omega (arith, ap length (y .1)))
+
+-- all of it together, as the loop has it
+module _ {w arguments : List ℕ} {size : ℕ} {plan : Plan} {ws ls : List ℕ} {g : Compact} {lent : List ℕ} {n : ℕ}
+    (r : Running w arguments size plan ws ls g) (t : Tracking w arguments size plan ws ls g lent n) {ws′ ls′ : List ℕ} {o : Progress}
+    (st : Strides w ws ls plan g ws′ ls′ o) (next : Compact) (event : Event) (e : o ≡ progress.Free next event) (long : length ws′ ≡ length ws) where
+  goes : (stepOf o ≡ Go (full next)) × Paced plan next
+  goes = goes-free e (st .paced)
+
+  pub free-markable : 0 < length lent → Markable ws′ n (full g .credits .0) event
+  free-markable = markable r t st next event e (goes .0) long
+
+  pub free-next : {ws″ lent′ : List ℕ} {n′ : ℕ} → Marked ws′ lent n (full g .credits .0) event ws″ lent′ n′
+      → Running w arguments size plan ws″ ls′ next × (to-go w size plan ws″ ls′ (full next) < to-go w size plan ws ls (full g)) × Tracking w arguments size plan ws″ ls′ next lent′ n′
+  free-next {ws″} x =
+      let r₁ = running-next r st next (goes .0) (goes .1) long in
+      let alike = marked-alike r t st next event e (goes .0) long x in
+      let same = ready-alike w ws′ ws″ (r₁ .starts .ready .kept .table) (alike .0) (alike .1) ls′ plan (full next) (r₁ .starts .ready) .0 in
+      (running-alike r₁ ws″ (alike .0) (alike .1), rw (← same) (running-less r st next (goes .0)), tracking-free r t st next event e (goes .0) long x same)
 
 -- THE VALUE: a step that ends in one has no frame left, and the words are its graph's
 module _ (M : FrameMachine) (fuel cap : ℕ) (born : Bool) (N : ℕ) (lent : List ℕ) (n : ℕ) (p r : ℕ → ℕ) (v : ℕ) (h : Graph) (u : RunCounts) where

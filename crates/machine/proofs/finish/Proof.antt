@@ -13,7 +13,7 @@ expand-requires c κs = search needs
 
 -- src/lib.rt:123:9
 tell-requires : tie.Need-tell-requires
-tell-requires c κs = ?
+tell-requires c κs = rw (c .expand .ensures) (c .before .before .pre .2)
 
 -- src/lib.rt:124:41
 sub-finish : tie.Need-sub-finish
@@ -29,7 +29,7 @@ same-length c = search needs
 
 -- src/lib.rt:119:1
 returns : tie.Need-returns
-returns c = ?
+returns c = (rw (c .before .before .before .before .before .before .expand .ensures) at (c .before .before .before .before .before .tell .ensures), record { some = c .before .before .finish .ensures .0; none = c .before .before .finish .ensures .1 })
 
 pub finish-spec : {M : Type 1} → statement M
 finish-spec =

@@ -1,3 +1,5 @@
+use Rattle.machine.specs.Runs.{toldAt}
+use Rattle.compact.specs.Compact.{stepOf}
 use borrow.Author.Needs.{needs}
 use Rattle.machine.proofs.tell.Statement.{statement}
 use Rattle.machine.proofs.tell.Tie as tie
@@ -40,19 +42,23 @@ stop-requires-3 c κs = search needs
 
 -- src/lib.rt:106:1
 returns : tie.Need-returns
-returns c = ?
+unfolding toldAt stepOf
+returns c = rw (c .before .before .step .given .1, c .count .ensures)
 
 -- src/lib.rt:106:1
 returns-2 : tie.Need-returns-2
-returns-2 c = ?
+unfolding toldAt stepOf
+returns-2 c = rw (c .before .before .step2 .given .1, c .stop .ensures)
 
 -- src/lib.rt:106:1
 returns-3 : tie.Need-returns-3
-returns-3 c = ?
+unfolding toldAt stepOf
+returns-3 c = rw (c .before .enum-told .given .1, c .stop2 .ensures)
 
 -- src/lib.rt:106:1
 returns-4 : tie.Need-returns-4
-returns-4 c = ?
+unfolding toldAt stepOf
+returns-4 c = rw (c .before .enum-told2 .given .1, c .stop3 .ensures)
 
 pub tell-spec : {M : Type 1} → statement M
 tell-spec =
