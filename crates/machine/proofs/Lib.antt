@@ -3,3 +3,4 @@ pub mod Places
 pub mod Running
 pub mod Tracking
 pub mod Machines
+pub mod Concluding

@@ -29,7 +29,11 @@ use Rattle.language.proofs.Claim.{claim-of, same-depth-of, stops-agree-of}
 use Rattle.moves.specs.declared.Plan.{Plan}
 use Rattle.machine.specs.Workspace.{leftBy}
 use Rattle.machine.specs.Runs.{Accepted, Ran, Tells}
-use Rattle.machine.specs.AllThree.{AllThree}
+use Rattle.graph_answers.specs.declared.Graphed.{Graphed}
+use Rattle.graph_answers.specs.Answers.{graphedOf, graphLeft}
+use Rattle.graph_answers.proofs.Claim.{claim-lent, claim-or-25, same-depth-lent, stops-agree-lent}
+use Rattle.machine.specs.Written.{StopToldLent}
+use Rattle.machine.specs.AllThree.{AllThree, AllThreeGraphs}
 
 pub copied : (before arguments after : List ℕ) → length arguments ≤ length before
     → after ≡ paste before 0 (drop 0 arguments) (length arguments) → take (length arguments) after ≡ arguments
@@ -69,14 +73,20 @@ told-left τ (ended (value v) g t) ws = refl
 told-left τ (ended (stop i p) g t) ws = refl
 told-left τ (ongoing s) ws = refl
 
+left-checked : {X : Type 0} (c : Reading) (τ : ℕ) (o : Outcome Graph X) (ws : List ℕ) → leftBy (afterCheck c (toldBy τ o)) ws ≡ leftAfter c ws
+unfolding afterCheck leftBy leftAfter
+left-checked reading.Accepted τ o ws = told-left τ o ws
+left-checked (reading.Refused r) τ o ws = refl
+
 left-answer : (m : Schedule) (w arguments : List ℕ) (fuel N τ size : ℕ) (ws : List ℕ)
     → leftBy (answerOf m w arguments fuel N τ size) ws ≡ leftAfter (checkedOf w (length arguments) fuel N τ size) ws
-unfolding answerOf afterCheck runOf leftBy leftAfter
-left-answer m w arguments fuel N τ size ws = by (checkedOf w (length arguments) fuel N τ size)
-  where
-    by : (c : Reading) → leftBy (afterCheck c (runOf m w arguments fuel τ size)) ws ≡ leftAfter c ws
-    by reading.Accepted = told-left τ _ ws
-    by (reading.Refused r) = refl
+unfolding answerOf runOf
+left-answer m w arguments fuel N τ size ws = left-checked (checkedOf w (length arguments) fuel N τ size) τ _ ws
+
+left-graphed : (m : Schedule) (w arguments : List ℕ) (fuel N τ size lent : ℕ) (ws : List ℕ)
+    → leftBy (graphedOf m w arguments fuel N τ size lent .answer) ws ≡ leftAfter (checkedOf w (length arguments) fuel N τ size) ws
+unfolding graphedOf
+left-graphed m w arguments fuel N τ size lent ws = left-checked (checkedOf w (length arguments) fuel N τ size) τ _ ws
 
 pub left-length : (a : Answer) (ws : List ℕ) → length (leftBy a ws) ≡ length ws
 unfolding leftBy
@@ -115,4 +125,43 @@ module _ (w arguments : List ℕ) (fuel N τ : ℕ) (ws ws₁ ws₂ ws₃ : List
         demand-3 = claim-of w arguments fuel N τ (length ws) s p h es fp fh;
         same-depth = same-depth-of w arguments fuel N τ (length ws) s p h es fp fh;
         stops-agree = stops-agree-of w arguments fuel N τ (length ws) s p h es fp fh;
+      }
+
+-- ONE WORKSPACE, and a buffer for each
+module _ (w arguments : List ℕ) (fuel N τ : ℕ) (ws ws₁ ws₂ ws₃ a b c a′ b′ c′ : List ℕ) (s p h : Graphed) where
+  pub all-three-graphs : s ≡ graphedOf sequential w arguments fuel N τ (length ws) (length a) → ws₁ ≡ leftBy (s .answer) ws
+      → a′ ≡ graphLeft sequential w arguments fuel N τ (length ws) a → StopToldLent w fuel (s .answer)
+      → p ≡ graphedOf parallel w arguments fuel N τ (length ws₁) (length b) → ws₂ ≡ leftBy (p .answer) ws₁
+      → b′ ≡ graphLeft parallel w arguments fuel N τ (length ws₁) b → StopToldLent w fuel (p .answer)
+      → h ≡ graphedOf (heartbeat N) w arguments fuel N τ (length ws₂) (length c) → ws₃ ≡ leftBy (h .answer) ws₂
+      → c′ ≡ graphLeft (heartbeat N) w arguments fuel N τ (length ws₂) c → StopToldLent w fuel (h .answer)
+      → AllThreeGraphs w arguments fuel N τ ws a b c ws₃ a′ b′ c′ (record { sequential = s; parallel = p; heartbeat = h })
+  all-three-graphs es e₁ ga ls ep e₂ gb lp eh e₃ gc lh =
+      let l₁ : length ws₁ ≡ length ws = ap length e₁ ∙ left-length (s .answer) ws in
+      let l₂ : length ws₂ ≡ length ws = ap length e₂ ∙ left-length (p .answer) ws₁ ∙ l₁ in
+      let fp : p ≡ graphedOf parallel w arguments fuel N τ (length ws) (length b) = ep ∙ ap (λ (n : ℕ). graphedOf parallel w arguments fuel N τ n (length b)) l₁ in
+      let fh : h ≡ graphedOf (heartbeat N) w arguments fuel N τ (length ws) (length c) = eh ∙ ap (λ (n : ℕ). graphedOf (heartbeat N) w arguments fuel N τ n (length c)) l₂ in
+      let C = checkedOf w (length arguments) fuel N τ (length ws) in
+      let a₁ : leftBy (s .answer) ws ≡ leftAfter C ws = ap (λ (x : Graphed). leftBy (x .answer) ws) es ∙ left-graphed sequential w arguments fuel N τ (length ws) (length a) ws in
+      let b₁ : ws₁ ≡ leftAfter C ws = e₁ ∙ a₁ in
+      let b₂ : ws₂ ≡ leftAfter C ws = e₂ ∙ ap (λ (x : Graphed). leftBy (x .answer) ws₁) fp ∙ left-graphed parallel w arguments fuel N τ (length ws) (length b) ws₁ ∙ ap (leftAfter C) b₁ ∙ left-again C ws in
+      let b₃ : ws₃ ≡ leftAfter C ws = e₃ ∙ ap (λ (x : Graphed). leftBy (x .answer) ws₂) fh ∙ left-graphed (heartbeat N) w arguments fuel N τ (length ws) (length c) ws₂ ∙ ap (leftAfter C) b₂ ∙ left-again C ws in
+      let is = ap (λ (x : Graphed). x .answer) es in
+      let ip = ap (λ (x : Graphed). x .answer) fp in
+      let ih = ap (λ (x : Graphed). x .answer) fh in
+      record {
+        sequential = es;
+        parallel = fp;
+        heartbeat = fh;
+        workspace = b₃ ∙ sym a₁;
+        sequential-graph = ga;
+        parallel-graph = gb ∙ ap (λ (n : ℕ). graphLeft parallel w arguments fuel N τ n b) l₁;
+        heartbeat-graph = gc ∙ ap (λ (n : ℕ). graphLeft (heartbeat N) w arguments fuel N τ n c) l₂;
+        sequential-stop = ls;
+        parallel-stop = lp;
+        heartbeat-stop = lh;
+        demand-3 = λ x y. rw (is, ip, ih) (claim-lent w arguments fuel N τ (length ws) (length a) (length b) (length c) (rw ip at x) (rw ih at y));
+        demand-3-or-25 = λ v k x. rw (ip, ih) (claim-or-25 w arguments fuel N τ (length ws) (length a) (length b) (length c) v k (sym is ∙ x));
+        same-depth = rw (is, ip, ih) (same-depth-lent w arguments fuel N τ (length ws) (length a) (length b) (length c));
+        stops-agree = rw (is, ip, ih) (stops-agree-lent w arguments fuel N τ (length ws) (length a) (length b) (length c));
       }

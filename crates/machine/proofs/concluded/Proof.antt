@@ -1,53 +1,52 @@
+-- `machine::concluded` meets its contract.
+use mathlib.Core.Path.{_≡_}
+use lib.ListN.{length}
+use Rattle.machine.proofs.Concluding.{value-fits}
+use Rattle.machine.specs.Written.{clearedTo}
+use lib.ListN.{replicate}
+use native.Mathlib.Omega.{arith}
+use Prim.Native.Nat.{ℕ, _-_}
+use mathlib.Core.Path.{_∙_, ap, refl}
 use borrow.Author.Needs.{needs}
 use Rattle.machine.proofs.concluded.Statement.{statement}
 use Rattle.machine.proofs.concluded.Tie as tie
-use Rattle.machine.proofs.concluded.Reads as reads
-use Rattle.machine.proofs.concluded.Lts as lts
-use Rattle.graph.proofs.clear.Reads as clear-reads
-use Rattle.graph_answers.proofs.fitted.Reads as fitted-reads
 
--- src/lib.rt:252:9
 fitted-requires : tie.Need-fitted-requires
 fitted-requires c κs = search needs
 
--- src/lib.rt:256:26
 enum-told : tie.Need-enum-told
 enum-told c = search needs
 
--- src/lib.rt:256:13
 clear-requires : tie.Need-clear-requires
-clear-requires c κs = ?
+clear-requires c κs = value-fits (c .before .before .before .before .before .args .ran .answer) (c .before .before .before .before .before .args .ran .words) _ _ (c .before .before .before .fitted .ensures) _ _ (c .before .enum-told .given .1)
 
--- src/lib.rt:259:26
 enum-told-2 : tie.Need-enum-told-2
 enum-told-2 c = search needs
 
--- src/lib.rt:259:13
 clear-requires-2 : tie.Need-clear-requires-2
 clear-requires-2 c κs = search needs
 
 enum-told-3 : tie.Need-enum-told-3
 enum-told-3 c = search needs
 
--- src/lib.rt:248:1
 same-length : tie.Need-same-length
 same-length c = search needs
 
--- src/lib.rt:248:1
 returns : tie.Need-returns
-returns c = ?
+unfolding clearedTo
+returns c = (c .before .before .before .before .before .before .fitted .ensures, rw (c .before .before .before .before .enum-told .given .1) (c .before .before .clear .ensures))
 
--- src/lib.rt:248:1
 same-length-2 : tie.Need-same-length-2
 same-length-2 c = search needs
 
--- src/lib.rt:248:1
 returns-2 : tie.Need-returns-2
-returns-2 c = ?
+unfolding clearedTo
+returns-2 c = let n : length (c .before .before .before .before .before .before .before .before .args .graph .now) - 0 ≡ length (c .before .before .before .before .before .before .before .before .args .graph .now) = omega arith in
+    (c .before .before .before .before .before .before .fitted .ensures, rw (c .before .before .before .before .enum-told2 .given .1) (c .before .before .clear2 .ensures ∙ ap (λ (k : ℕ). replicate k 0) n))
 
--- src/lib.rt:248:1
 returns-3 : tie.Need-returns-3
-returns-3 c = ?
+unfolding clearedTo
+returns-3 c = (c .before .before .fitted .ensures, rw (c .enum-told3 .given .1))
 
 pub concluded-spec : {M : Type 1} → statement M
 concluded-spec =

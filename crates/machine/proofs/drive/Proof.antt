@@ -1,3 +1,4 @@
+-- `machine::drive` meets its contract.
 use Rattle.machine.proofs.Running.{neither}
 use borrow.Author.Needs.{needs}
 use Rattle.machine.proofs.Tracking.{Tracking, tracking-first, tracking-go, small-end, free-markable, free-next, wrote}
@@ -8,12 +9,6 @@ use mathlib.Core.Path.{_≡_, refl, _∙_}
 use native.Mathlib.Omega.{arith}
 use Rattle.machine.proofs.drive.Statement.{statement}
 use Rattle.machine.proofs.drive.Tie as tie
-use Rattle.machine.proofs.drive.Reads as reads
-use Rattle.machine.proofs.drive.Lts as lts
-use Rattle.machine.proofs.begin.Reads as begin-reads
-use Rattle.machine.proofs.finish.Reads as finish-reads
-use Rattle.marks.proofs.mark.Reads as mark-reads
-use Rattle.strides.proofs.stride.Reads as stride-reads
 
 abbrev Inv-loop : tie.InvT-loop
 Inv-loop words starts ws₀ locals₀ graph₀ plan count g₀ n₀ ws locals graph g n =
@@ -22,72 +17,56 @@ Inv-loop words starts ws₀ locals₀ graph₀ plan count g₀ n₀ ws locals gr
 abbrev μ-loop : tie.MeasureT-loop
 μ-loop words starts ws₀ locals₀ graph₀ plan count g₀ n₀ ws locals graph g n = to-go words (length ws₀) plan ws locals (full g)
 
--- src/lib.rt:141:9
 begin-requires : tie.Need-begin-requires Inv-loop μ-loop
 begin-requires c κs = search needs
 
--- src/lib.rt:143:5
 loop-holds : tie.Need-loop-holds Inv-loop μ-loop
 loop-holds c = (running-first (c .before .before .before .before .before .before .pre .0) (c .begin .ensures), tracking-first _ (c .before .before .before .before .before .before .pre .0) (c .begin .ensures), refl)
 
--- src/lib.rt:144:13
 stride-requires : tie.Need-stride-requires Inv-loop μ-loop
 stride-requires c κs = (c .before .before .loop .inv .0 .starts, c .before .before .before .before .before .before .before .before .before .pre .1)
 
--- src/lib.rt:146:26
 enum-known-step : tie.Need-enum-known-step Inv-loop μ-loop
 enum-known-step c = search needs
 
--- src/lib.rt:143:5
 loop-less : tie.Need-loop-less Inv-loop μ-loop
 loop-less c = running-less (c .before .before .before .before .before .before .before .before .before .before .loop .inv .0) (c .before .before .before .before .before .before .before .stride .ensures) (c .before .step .given .0 .0) (goes-on (c .before .step .given .1) (c .before .before .before .before .before .before .before .stride .ensures .paced) .0)
 
--- src/lib.rt:143:5
 loop-again : tie.Need-loop-again Inv-loop μ-loop
 loop-again c = let i = c .before .before .before .before .before .before .before .before .before .before .loop .inv in
     let st = c .before .before .before .before .before .before .before .stride .ensures in
     let goes = goes-on (c .before .step .given .1) (st .paced) in
     (running-next (i .0) st _ (goes .0) (goes .1) (c .before .before .before .before .before .before .before .stride .kept .1 .1 .0), tracking-go (i .0) (i .1) st _ (c .before .step .given .1) (goes .0), i .2)
 
--- src/lib.rt:149:28
 enum-known-step-2 : tie.Need-enum-known-step-2 Inv-loop μ-loop
 enum-known-step-2 c = search needs
 
--- src/lib.rt:150:47
 sub-mark : tie.Need-sub-mark Inv-loop μ-loop
 sub-mark c = omega (arith, c .before .before .before .before .before .before .before .before .before .before .before .before .before .loop .inv .0 .starts .paced .since)
 
--- src/lib.rt:150:17
 mark-requires : tie.Need-mark-requires Inv-loop μ-loop
 mark-requires c κs = let i = c .before .before .before .before .before .before .before .before .before .before .before .before .before .loop .inv in free-markable (i .0) (i .1) (c .before .before .before .before .before .before .before .before .before .before .stride .ensures) _ _ (c .before .before .before .before .step2 .given .1) (c .before .before .before .before .before .before .before .before .before .before .stride .kept .1 .1 .0)
 
--- src/lib.rt:143:5
 loop-less-2 : tie.Need-loop-less-2 Inv-loop μ-loop
 loop-less-2 c = let i = c .before .before .before .before .before .before .before .before .before .before .before .before .before .before .before .before .before .before .loop .inv in free-next (i .0) (i .1) (c .before .before .before .before .before .before .before .before .before .before .before .before .before .before .before .stride .ensures) _ _ (c .before .before .before .before .before .before .before .before .before .step2 .given .1) (c .before .before .before .before .before .before .before .before .before .before .before .before .before .before .before .stride .kept .1 .1 .0) (c .before .before .before .before .mark .ensures) .1
 
--- src/lib.rt:143:5
 loop-again-2 : tie.Need-loop-again-2 Inv-loop μ-loop
 loop-again-2 c = let i = c .before .before .before .before .before .before .before .before .before .before .before .before .before .before .before .before .before .before .loop .inv in
     let x = free-next (i .0) (i .1) (c .before .before .before .before .before .before .before .before .before .before .before .before .before .before .before .stride .ensures) _ _ (c .before .before .before .before .before .before .before .before .before .step2 .given .1) (c .before .before .before .before .before .before .before .before .before .before .before .before .before .before .before .stride .kept .1 .1 .0) (c .before .before .before .before .mark .ensures) in
     (x .0, x .2, c .before .before .before .before .mark .kept .1 .0 ∙ i .2)
 
--- src/lib.rt:154:17
 finish-requires : tie.Need-finish-requires Inv-loop μ-loop
 finish-requires c κs = let i = c .before .before .before .before .before .before .before .before .before .loop .inv in (running-expands (i .0) .0, running-expands (i .0) .1, running-counts (i .0), small-end (i .0) (i .1))
 
--- src/lib.rt:154:17
 same-length : tie.Need-same-length Inv-loop μ-loop
 same-length c = search needs
 
--- src/lib.rt:154:17
 same-length-2 : tie.Need-same-length-2 Inv-loop μ-loop
 same-length-2 c = omega (arith, c .before .before .before .before .before .before .before .before .before .before .before .before .loop .inv .0 .starts .ready .kept .sixteen, c .before .before .before .before .before .before .before .before .before .before .before .before .before .before .before .before .before .before .before .pre .0 .sixteen)
 
--- src/lib.rt:154:17
 same-length-3 : tie.Need-same-length-3 Inv-loop μ-loop
 same-length-3 c = omega (arith, c .before .before .before .before .before .before .before .before .before .before .before .before .loop .inv .2)
 
--- src/lib.rt:154:17
 returns : tie.Need-returns Inv-loop μ-loop
 returns c = let i = c .before .before .before .before .before .before .before .before .before .before .before .before .loop .inv in
     let st = c .before .before .before .before .before .before .before .before .before .stride .ensures in

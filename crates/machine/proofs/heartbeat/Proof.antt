@@ -8,15 +8,15 @@ use borrow.Author.Needs.{needs}
 use Rattle.machine.proofs.heartbeat.Statement.{statement}
 use Rattle.machine.proofs.heartbeat.Tie as tie
 
-machine-requires : tie.Need-machine-requires
-machine-requires c κs = search needs
+alone-requires : tie.Need-alone-requires
+alone-requires c κs = search needs
 
 same-length : tie.Need-same-length
 same-length c = search needs
 
 returns : tie.Need-returns
 unfolding Flags
-returns c = let e = c .before .before .machine .ensures .0 (heartbeat (c .before .before .before .before .before .before .before .args .period)) (λ h. (refl, omega arith)) in (e, (c .before .before .machine .ensures .1, listed-of _ _ _ _ _ _ _ _ e))
+returns c = let e = c .before .before .alone .ensures .0 (heartbeat (c .before .before .before .before .before .before .before .args .period)) (λ h. (refl, omega arith)) in (e, (c .before .before .alone .ensures .1, listed-of _ _ _ _ _ _ _ _ e))
 
 pub heartbeat-spec : {M : Type 1} → statement M
-heartbeat-spec = tie.close (tie.spec machine-requires same-length returns)
+heartbeat-spec = tie.close (tie.spec alone-requires same-length returns)

@@ -1,61 +1,46 @@
+-- `machine::tell` meets its contract.
 use Rattle.machine.specs.Runs.{toldAt}
 use Rattle.compact.specs.Compact.{stepOf}
 use borrow.Author.Needs.{needs}
 use Rattle.machine.proofs.tell.Statement.{statement}
 use Rattle.machine.proofs.tell.Tie as tie
-use Rattle.machine.proofs.tell.Reads as reads
-use Rattle.machine.proofs.tell.Lts as lts
-use Rattle.machine.proofs.count.Reads as count-reads
-use Rattle.machine.proofs.stop.Reads as stop-reads
 
--- src/lib.rt:111:25
 enum-known-step : tie.Need-enum-known-step
 enum-known-step c = search needs
 
--- src/lib.rt:111:48
 count-requires : tie.Need-count-requires
 count-requires c κs = search needs
 
--- src/lib.rt:112:24
 enum-known-step-2 : tie.Need-enum-known-step-2
 enum-known-step-2 c = search needs
 
--- src/lib.rt:112:30
 stop-requires : tie.Need-stop-requires
 stop-requires c κs = search needs
 
--- src/lib.rt:113:28
 enum-told : tie.Need-enum-told
 enum-told c = search needs
 
--- src/lib.rt:113:28
 stop-requires-2 : tie.Need-stop-requires-2
 stop-requires-2 c κs = search needs
 
--- src/lib.rt:114:33
 enum-told-2 : tie.Need-enum-told-2
 enum-told-2 c = search needs
 
--- src/lib.rt:114:33
 stop-requires-3 : tie.Need-stop-requires-3
 stop-requires-3 c κs = search needs
 
--- src/lib.rt:106:1
 returns : tie.Need-returns
 unfolding toldAt stepOf
 returns c = rw (c .before .before .step .given .1, c .count .ensures)
 
--- src/lib.rt:106:1
 returns-2 : tie.Need-returns-2
 unfolding toldAt stepOf
 returns-2 c = rw (c .before .before .step2 .given .1, c .stop .ensures)
 
--- src/lib.rt:106:1
 returns-3 : tie.Need-returns-3
 unfolding toldAt stepOf
 returns-3 c = rw (c .before .enum-told .given .1, c .stop2 .ensures)
 
--- src/lib.rt:106:1
 returns-4 : tie.Need-returns-4
 unfolding toldAt stepOf
 returns-4 c = rw (c .before .enum-told2 .given .1, c .stop3 .ensures)

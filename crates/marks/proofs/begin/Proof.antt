@@ -1,3 +1,4 @@
+-- `marks::begin` meets its contract.
 use Rattle.graph.proofs.Holding.{counted-few}
 use native.Mathlib.Omega.{arith}
 use Prim.Native.Nat.{ℕ, _+_}
@@ -5,36 +6,25 @@ use mathlib.Core.Path.{_∙_, ap}
 use borrow.Author.Needs.{needs}
 use Rattle.marks.proofs.begin.Statement.{statement}
 use Rattle.marks.proofs.begin.Tie as tie
-use Rattle.marks.proofs.begin.Reads as reads
-use Rattle.marks.proofs.begin.Lts as lts
-use Rattle.frames.proofs.keep_place.Reads as keep-place-reads
-use Rattle.graph.proofs.fork.Reads as fork-reads
 
--- src/lib.rt:19:9
 fork-requires : tie.Need-fork-requires
 fork-requires c κs = search needs
 
--- src/lib.rt:20:28
 mul-keep-place : tie.Need-mul-keep-place
 mul-keep-place c = search needs
 
--- src/lib.rt:20:5
 keep-place-requires : tie.Need-keep-place-requires
 keep-place-requires c κs = search needs
 
--- src/lib.rt:21:5
 add-result : tie.Need-add-result
 add-result c = omega (arith, c .before .before .before .before .before .before .fork .ensures .0, counted-few (c .before .before .before .before .before .before .before .before .before .before .args .n) (c .before .before .before .before .before .before .before .before .before .before .args .made))
 
--- src/lib.rt:15:1
 same-length : tie.Need-same-length
 same-length c = search needs
 
--- src/lib.rt:15:1
 same-length-2 : tie.Need-same-length-2
 same-length-2 c = search needs
 
--- src/lib.rt:15:1
 returns : tie.Need-returns
 returns c = (rw (c .before .before .before .before .before .before .fork .ensures .0) at (c .before .before .keep-place .ensures), c .before .before .before .before .before .before .fork .ensures .1, ap (λ (x : ℕ). x + 3) (c .before .before .before .before .before .before .fork .ensures .0))
 

@@ -1,25 +1,19 @@
+-- `marks::finish` meets its contract.
 use native.Mathlib.Omega.{arith}
 use mathlib.Core.Path.{refl}
 use borrow.Author.Needs.{needs}
 use Rattle.marks.proofs.finish.Statement.{statement}
 use Rattle.marks.proofs.finish.Tie as tie
-use Rattle.marks.proofs.finish.Reads as reads
-use Rattle.marks.proofs.finish.Lts as lts
-use Rattle.graph.proofs.end_stretch.Reads as end-stretch-reads
 
--- src/lib.rt:72:9
 returns : tie.Need-returns
 returns c = (λ h. absurd (omega arith), λ h. refl)
 
--- src/lib.rt:74:5
 end-stretch-requires : tie.Need-end-stretch-requires
 end-stretch-requires c κs = let s = c .before .before .before .pre (omega (arith, c .before .if1 .left)) in omega (arith, s .words, s .pending)
 
--- src/lib.rt:66:1
 same-length : tie.Need-same-length
 same-length c = search needs
 
--- src/lib.rt:66:1
 returns-2 : tie.Need-returns-2
 returns-2 c = (λ h. c .before .before .end-stretch .ensures, λ h. absurd (omega (arith, c .before .before .before .before .if1 .left)))
 
