@@ -13,21 +13,22 @@ use Rattle.language.specs.declared.Stop.{Stop}
 use Rattle.language.specs.declared.Answer.{Answer}
 use Rattle.language.specs.declared.Answer.the-variants.{Value, Stopped, Refused}
 use Rattle.language.specs.Answers.{answerOf, sequentialOf, parallelOf, heartbeatOf, deepestOf}
-use Rattle.language.specs.Claim.{SameStop}
+use Rattle.language.specs.Claim.{FourStatements, SameStop}
+use Rattle.language.specs.Stops.{Listed}
 use Rattle.language.proofs.Claim.{claim, same-depth, stops-agree}
 use Rattle.language.proofs.Stops.{stops-listed}
 use Rattle.capi.specs.Words.{answerWords, written}
 use Rattle.capi.specs.Calls.{answerBy}
-use Rattle.capi.specs.Claims.{CallWrote, ThreeCalls, DepthOfCalls, SameStopIn, StopsOfCalls, StopOfCall}
+use Rattle.capi.specs.Claims.{FourOfWords, CallWrote, ThreeCalls, DepthOfCalls, SameStopIn, StopsOfCalls, StopIn, StopOfCall}
 use Rattle.capi.proofs.Serving.{serving}
 use Rattle.capi.proofs.Writing.{length-written, word-written}
 
 -- the words of an answer at the front of a buffer, by their places
-record Front (out : List ℕ) (a : Answer) : Type 0 where
-  at : (i : ℕ) → i < 8 → getD out i 0 ≡ getD (answerWords a) i 0
-  last : 9 ≤ length out → getD out 8 0 ≡ getD (answerWords a) 8 0
+pub record Front (out : List ℕ) (a : Answer) : Type 0 where
+  pub at : (i : ℕ) → i < 8 → getD out i 0 ≡ getD (answerWords a) i 0
+  pub last : 9 ≤ length out → getD out 8 0 ≡ getD (answerWords a) 8 0
 
-nine : (a : Answer) → length (answerWords a) ≡ 9
+pub nine : (a : Answer) → length (answerWords a) ≡ 9
 unfolding answerWords
 nine (Value v k) = refl
 nine (Stopped s) = refl
@@ -48,27 +49,22 @@ module _ {machine : ℕ} {w arguments : List ℕ} {fuel N τ workspace : ℕ} {o
       rw e (front (c .out) _ (c .has-room))
 
 -- a kind of 0 is a value's, and of 1 a stop's
-valued : (a : Answer) → getD (answerWords a) 0 0 ≡ 0 → (v : ℕ) × (k : Counts) × (a ≡ Value v k)
+pub valued : (a : Answer) → getD (answerWords a) 0 0 ≡ 0 → (v : ℕ) × (k : Counts) × (a ≡ Value v k)
 unfolding answerWords
 valued (Value v k) e = (v, k, refl)
 valued (Stopped s) e = absurd (omega arith)
 valued (Refused r) e = absurd (omega arith)
 
-stopped : (a : Answer) → getD (answerWords a) 0 0 ≡ 1 → (s : Stop) × (a ≡ Stopped s)
+pub stopped : (a : Answer) → getD (answerWords a) 0 0 ≡ 1 → (s : Stop) × (a ≡ Stopped s)
 unfolding answerWords
 stopped (Value v k) e = absurd (omega arith)
 stopped (Stopped s) e = (s, refl)
 stopped (Refused r) e = absurd (omega arith)
 
-pub three-calls : ThreeCalls
-unfolding answerWords answerBy
-three-calls w arguments fuel N τ workspace s p h cs cp ch zero-kind =
-    let fs = tells cs in
-    let fp = tells cp in
-    let fh = tells ch in
-    let a = valued (sequentialOf w arguments fuel N τ workspace) (sym (fs .at 0 (omega arith)) ∙ zero-kind) in
-    let four = claim w arguments fuel N τ workspace .at-a-value (a .0) (a .1) (a .2) in
-    let ws = rw (a .2) at fs in
+-- the four statements of answers, as their words
+pub four-words : (N τ v : ℕ) (k : Counts) (s p h : List ℕ) (a b : Answer) → Front s (Value v k) → Front p a → Front h b → FourStatements N τ v k a b → FourOfWords N τ s p h
+unfolding answerWords
+four-words N τ v k s p h a b ws fp fh four =
     let wp = rw (four .parallel-value) at fp in
     let wh = rw (four .heartbeat-value) at fh in
     let told = ws .at 1 (omega arith) in
@@ -82,8 +78,15 @@ three-calls w arguments fuel N τ workspace s p h cs cp ch zero-kind =
       identity = rw (heartbeat-work, wh .at 5 (omega arith), work) (four .identity);
     }
 
+pub three-calls : ThreeCalls
+unfolding answerBy
+three-calls w arguments fuel N τ workspace s p h cs cp ch zero-kind =
+    let fs = tells cs in
+    let a = valued (sequentialOf w arguments fuel N τ workspace) (sym (fs .at 0 (omega arith)) ∙ zero-kind) in
+    four-words N τ (a .0) (a .1) s p h _ _ (rw (a .2) at fs) (tells cp) (tells ch) (claim w arguments fuel N τ workspace .at-a-value (a .0) (a .1) (a .2))
+
 -- the depth that an answer shows is its last word
-shown : (a : Answer) → getD (answerWords a) 8 0 ≡ deepestOf a
+pub shown : (a : Answer) → getD (answerWords a) 8 0 ≡ deepestOf a
 unfolding answerWords deepestOf
 shown (Value v k) = refl
 shown (Stopped s) = refl
@@ -101,7 +104,7 @@ depth-of-calls w arguments fuel N τ workspace s p h cs cp ch ls lp lh zero-kind
     (dp ∙ sym ds, dh ∙ sym ds)
 
 -- the words of an answer that is the same stop
-same-words : (s out : List ℕ) (stop : Stop) (a : Answer) → Front s (Stopped stop) → Front out a → SameStop stop a → SameStopIn s out
+pub same-words : (s out : List ℕ) (stop : Stop) (a : Answer) → Front s (Stopped stop) → Front out a → SameStop stop a → SameStopIn s out
 unfolding answerWords
 same-words s out stop a f g same =
     let k = rw (same .is) at g in
@@ -140,13 +143,10 @@ by-number machine w arguments fuel N τ workspace = on (eqb machine 0) (eqb mach
     on false true = refl
     on false false = refl
 
-pub stop-of-call : StopOfCall
+-- a listed stop, as its words
+pub listed-words : (w : List ℕ) (fuel : ℕ) (out : List ℕ) (s : Stop) → Front out (Stopped s) → Listed w fuel s → StopIn w fuel out
 unfolding answerWords
-stop-of-call machine w arguments fuel N τ workspace out c one-kind =
-    let f = tells c in
-    let a = stopped (answerBy machine w arguments fuel N τ workspace) (sym (f .at 0 (omega arith)) ∙ one-kind) in
-    let l = stops-listed (scheduled machine N) w arguments fuel N τ workspace (a .0) (sym (by-number machine w arguments fuel N τ workspace) ∙ a .1) in
-    let ws = rw (a .1) at f in
+listed-words w fuel out s ws l =
     let told = ws .at 1 (omega arith) in
     let function = ws .at 2 (omega arith) in
     let transitions = ws .at 4 (omega arith) in
@@ -158,3 +158,10 @@ stop-of-call machine w arguments fuel N τ workspace out c one-kind =
       within-fuel = omega (arith, transitions, l .within-fuel);
       spent = λ e. transitions ∙ l .spent (sym told ∙ e);
     }
+
+pub stop-of-call : StopOfCall
+stop-of-call machine w arguments fuel N τ workspace out c one-kind =
+    let f = tells c in
+    let a = stopped (answerBy machine w arguments fuel N τ workspace) (sym (f .at 0 (omega arith)) ∙ one-kind) in
+    listed-words w fuel out (a .0) (rw (a .1) at f)
+    (stops-listed (scheduled machine N) w arguments fuel N τ workspace (a .0) (sym (by-number machine w arguments fuel N τ workspace) ∙ a .1))

@@ -2,3 +2,4 @@
 mod Serving
 pub mod Writing
 pub mod Claims
+pub mod Graphs

@@ -1,8 +1,10 @@
 // The three machines for programs in other languages (include/mondupil.h).
 //
 // `mondupil_run` calls one machine by its number and tells the answer in nine words, or in the first eight of them to a caller that lends no
-// more. What it tells, for any input, and what it leaves in the buffers that it is lent, is defined in specs/.
+// more. `mondupil_run_graph` does the same with a buffer lent for the run's cost graph, and tells the number of words written in a tenth. What
+// they tell, for any input, and what they leave in the buffers that they are lent, is defined in specs/.
 
+use graph_answers::Graphed;
 use language::Answer;
 use schedule::Fuel;
 ghost use mathlib.Core.Path.{_≡_};
@@ -10,6 +12,8 @@ ghost use lib.ListN.{length};
 ghost use Rattle.machine.specs.Workspace.{leftBy};
 ghost use Rattle.capi.specs.Words.{answerWords, written};
 ghost use Rattle.capi.specs.Calls.{answerBy, Called};
+ghost use Rattle.graph_answers.specs.Answers.{graphedOf, graphLeft};
+ghost use Rattle.capi.specs.Graphs.{scheduleBy, graphWords, GraphCalled};
 
 // What a call returns: it was served, or it was turned away and changed nothing.
 const SERVED: u32 = 0;
@@ -113,6 +117,78 @@ pub extern "C" fn mondupil_run(
     }
     let told = answered(machine, table, args, fuel, period, tau, workspace);
     let words = words_of(told);
+    write(answer, &words);
+    SERVED
+}
+
+// The words that tell an answer with a buffer lent: the nine, and the number of words written.
+fn graph_words_of(told: Graphed) -> [u64; 10]
+    ensures { λ r. ⌜ r ≡ graphWords told ⌝ }
+{
+    let answer = told.answer;
+    let nine = words_of(answer);
+    [
+        nine[0],
+        nine[1],
+        nine[2],
+        nine[3],
+        nine[4],
+        nine[5],
+        nine[6],
+        nine[7],
+        nine[8],
+        told.words as u64,
+    ]
+}
+
+// The machine of this number, as above, with a buffer lent for its cost graph.
+fn graphed(
+    machine: u32,
+    table: &[u32],
+    args: &[u64],
+    fuel: u64,
+    period: u64,
+    tau: u64,
+    workspace: &mut [u64],
+    graph: &mut [u32],
+) -> Graphed
+    ensures answer { λ r. ⌜ r ≡ graphedOf (scheduleBy machine period) (now (table .entry)) (now (args .entry)) fuel period tau (length (now (workspace .entry))) (length (now (graph .entry))) ⌝ }
+    ensures leaves { λ r. ⌜ now (workspace .exit) ≡ leftBy (r .answer) (now (workspace .entry)) ⌝ }
+    ensures writes { λ r. ⌜ now (graph .exit) ≡ graphLeft (scheduleBy machine period) (now (table .entry)) (now (args .entry)) fuel period tau (length (now (workspace .entry))) (now (graph .entry)) ⌝ }
+{
+    if machine == 0 {
+        return machine::sequential_graph(table, args, Fuel(fuel), period, tau, workspace, graph);
+    }
+    if machine == 1 {
+        return machine::parallel_graph(table, args, Fuel(fuel), period, tau, workspace, graph);
+    }
+    machine::heartbeat_graph(table, args, Fuel(fuel), period, tau, workspace, graph)
+}
+
+// Runs a machine with a buffer lent for its cost graph, and returns 0 with the answer's words, as many as are lent, at the front of `answer`;
+// for an unknown machine or fewer than eight answer words it returns 1 and changes nothing.
+#[no_mangle]
+pub extern "C" fn mondupil_run_graph(
+    machine: u32,
+    table: &[u32],
+    args: &[u64],
+    fuel: u64,
+    period: u64,
+    tau: u64,
+    workspace: &mut [u64],
+    graph: &mut [u32],
+    answer: &mut [u64],
+) -> u32
+    ensures { λ r. ⌜ GraphCalled machine (now (table .entry)) (now (args .entry)) fuel period tau (now (workspace .entry)) (now (graph .entry)) (now (answer .entry)) (now (workspace .exit)) (now (graph .exit)) (now (answer .exit)) r ⌝ }
+{
+    if 2 < machine {
+        return TURNED_AWAY;
+    }
+    if answer.len() < 8 {
+        return TURNED_AWAY;
+    }
+    let told = graphed(machine, table, args, fuel, period, tau, workspace, graph);
+    let words = graph_words_of(told);
     write(answer, &words);
     SERVED
 }
