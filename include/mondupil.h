@@ -24,12 +24,13 @@ enum { MONDUPIL_VALUE = 0, MONDUPIL_STOP = 1, MONDUPIL_REFUSAL = 2 };
  * most frames that were occupied at once, the depth. Words that an answer does not have are 0: a value has no function and no node, a
  * stop no forks, work and span, a refusal none after its node.
  *
- * An answer of mondupil_run has MONDUPIL_WORDS words, one of mondupil_run_graph these and one more, MONDUPIL_GRAPH, how many words of the
- * cost graph were written: MONDUPIL_GRAPH_WORDS in all. Place 9 stays free in the answers of mondupil_run.
+ * An answer of mondupil_run has the first MONDUPIL_WORDS of them. One of mondupil_run_graph has these and one more, MONDUPIL_GRAPH, the
+ * number of words of the cost graph that were written: MONDUPIL_GRAPH_WORDS in all.
  *
- * HOW AN ANSWER GROWS. A later version may add words after the last of these places, and only there: they stay, and MONDUPIL_WORDS and
- * MONDUPIL_GRAPH_WORDS, how many there are, rise. A call writes as many of them as are lent, so that a program compiled with an earlier
- * header, which lends fewer, finds in those what it always found. MONDUPIL_FEWEST, how many have to be lent, does not rise. */
+ * HOW AN ANSWER GROWS. A later version may add words after the last, and only there: the places above it stay, and MONDUPIL_WORDS and
+ * MONDUPIL_GRAPH_WORDS, how many there are, rise. Place 9 stays free in the answers of mondupil_run: a word that is added to both comes
+ * after it. A call writes as many of them as are lent, so that a program compiled with an earlier header, which lends fewer, finds in
+ * those what it always found. MONDUPIL_FEWEST, how many have to be lent, does not rise. */
 enum {
     MONDUPIL_KIND, MONDUPIL_TOLD, MONDUPIL_FUNCTION, MONDUPIL_NODE,
     MONDUPIL_TRANSITIONS, MONDUPIL_FORKS, MONDUPIL_WORK, MONDUPIL_SPAN,
