@@ -24,14 +24,20 @@ enum { MONDUPIL_VALUE = 0, MONDUPIL_STOP = 1, MONDUPIL_REFUSAL = 2 };
  * most frames that were occupied at once, the depth. Words that an answer does not have are 0: a value has no function and no node, a
  * stop no forks, work and span, a refusal none after its node.
  *
- * HOW AN ANSWER GROWS. A later version may add words after the last, and only there: the places above it stay, and MONDUPIL_WORDS, how
- * many there are, rises. A call writes as many of them as are lent, so that a program compiled with an earlier header, which lends fewer,
- * finds in those what it always found. MONDUPIL_FEWEST, how many have to be lent, does not rise. */
+ * An answer of mondupil_run has the first MONDUPIL_WORDS of them. One of mondupil_run_graph has these and one more, MONDUPIL_GRAPH, the
+ * number of words of the cost graph that were written: MONDUPIL_GRAPH_WORDS in all.
+ *
+ * HOW AN ANSWER GROWS. A later version may add words after the last, and only there: the places above it stay, and MONDUPIL_WORDS and
+ * MONDUPIL_GRAPH_WORDS, how many there are, rise. Place 9 stays free in the answers of mondupil_run: a word that is added to both comes
+ * after it. A call writes as many of them as are lent, so that a program compiled with an earlier header, which lends fewer, finds in
+ * those what it always found. MONDUPIL_FEWEST, how many have to be lent, does not rise. */
 enum {
     MONDUPIL_KIND, MONDUPIL_TOLD, MONDUPIL_FUNCTION, MONDUPIL_NODE,
     MONDUPIL_TRANSITIONS, MONDUPIL_FORKS, MONDUPIL_WORK, MONDUPIL_SPAN,
     MONDUPIL_DEEPEST,
     MONDUPIL_WORDS,
+    MONDUPIL_GRAPH = 9,
+    MONDUPIL_GRAPH_WORDS,
     MONDUPIL_FEWEST = 8
 };
 
@@ -62,6 +68,7 @@ enum {
  *   22  a sum or a product above 2^64 - 1
  *   23  a difference below 0
  *   24  a division by 0, or its remainder
+ *   25  the run has a value, and its cost graph needs more words than were lent; only of mondupil_run_graph
  */
 
 /* Runs one machine on a job table with arguments. `period` is N and `tau` the price of a fork.
@@ -96,6 +103,55 @@ uint32_t mondupil_run(uint32_t machine,
                       uint64_t fuel, uint64_t period, uint64_t tau,
                       uint64_t *workspace, size_t workspace_len,
                       uint64_t *answer, size_t answer_len);
+
+/* The same with a buffer lent for the run's cost graph; docs/PLANNER.md teaches what that is, with a reader of it in C.
+ *
+ * THE WORDS OF A GRAPH are a sequence of parts, from the run's first transition to its last. A part is
+ *
+ *     a stretch of k transitions, k at least 1: the two words 0, k. Two stretches never touch.
+ *     a fork: the three words 1, the length of its left graph in words, the length of its right graph; then the words of the left graph
+ *     and those of the right graph. Each is a sequence of parts as well. A left graph may have no words; its length is then 0.
+ *
+ * Table A of docs/SOURCES.md on the heartbeat machine, with a period of 3, has the graph
+ *
+ *     0 3 1 2 2 0 4 0 1 0 1
+ *
+ * a stretch of 3 transitions, a fork of a stretch of 4 and a stretch of 1, and a stretch of 1. A stretch of k costs k of work and k of
+ * span. A fork costs tau and the work of both graphs, and tau and the larger of their spans; a sequence costs the sum of its parts. With
+ * the tau of the call these are the work and the span of the answer. All three machines write graphs. The sequential machine never forks:
+ * its graph is one stretch.
+ *
+ * Returns 0, and `answer` begins with the words of the machine's answer, as many as are lent: all ten, or with a length of 8 or 9 the
+ * first eight or nine. Words after the tenth stay, today; lend MONDUPIL_GRAPH_WORDS. The workspace is as after mondupil_run: 0 after a
+ * value or a stop, as it was after a refusal. And
+ *
+ *     after a value MONDUPIL_GRAPH is the number of words of the graph, `graph` begins with these, and its words after them are 0;
+ *     after a stop, 25 too, MONDUPIL_GRAPH is 0, and every word of `graph` is 0;
+ *     after a refusal MONDUPIL_GRAPH is 0, and `graph` is as it was.
+ *
+ * For an unknown machine, or fewer than eight answer words, it returns 1 and changes nothing, `graph` neither.
+ *
+ * The answer is that of mondupil_run but for one case. Where mondupil_run has a value and its graph needs more words than `graph_len`, the
+ * answer is stop 25, with function 0, node 0 and the transitions and the depth of the run; every other stop comes before it. A 25 does not
+ * tell how many words are needed: lend more and call again. 2 * transitions + 3 * forks are enough, by the answer of mondupil_run. No
+ * value's graph is without words, so that an empty buffer gives 25 wherever mondupil_run has a value.
+ *
+ * Every input is allowed, and every length of `graph`, 0 too. What the caller must see to is what mondupil_run asks for, and that `graph`
+ * overlaps nothing else.
+ *
+ * Three calls, one of each machine, as for mondupil_run, each with a buffer for its graph, of any length: if neither the parallel nor the
+ * heartbeat machine's answer is a 25, then what is said there of a sequential value holds. If one of them is, beside a sequential value,
+ * its run has the same value, and the two inequalities and the equation hold with the counts that mondupil_run answers for that run. All
+ * three have the same depth, a 25 among them; and if the sequential machine's answer is a stop with 21, 22, 23 or 24, what is said there
+ * holds in any case, since a 25 comes after every other stop. The last three are stated of the answers, in
+ * crates/graph_answers/specs/Claim.antt. */
+uint32_t mondupil_run_graph(uint32_t machine,
+                            const uint32_t *table, size_t table_len,
+                            const uint64_t *args, size_t args_len,
+                            uint64_t fuel, uint64_t period, uint64_t tau,
+                            uint64_t *workspace, size_t workspace_len,
+                            uint32_t *graph, size_t graph_len,
+                            uint64_t *answer, size_t answer_len);
 
 #ifdef __cplusplus
 }
