@@ -1,11 +1,11 @@
 -- A call is served or it is not, by its two tests, and what `Called` says of each.
 -- Assumes nothing.
-use mathlib.Core.Path.{_≡_}
+use mathlib.Core.Path.{_≡_, sym, _∙_}
 use Prim.Native.Nat.{ℕ, _<_, _≤_}
-use mathlib.Core.Bool.{true, false}
+use mathlib.Core.Bool.{Bool, true, false, not}
 use mathlib.Core.List.{List}
 use lib.ListN.{length}
-use borrow.Author.Tests.{le-leb, lt-leb}
+use borrow.Author.Tests.{not-true, not-false, le-leb, lt-leb}
 use Rattle.language.specs.declared.Answer.{Answer}
 use Rattle.machine.specs.Workspace.{leftBy}
 use Rattle.capi.specs.Words.{answerWords, written}
@@ -22,6 +22,13 @@ cramped machine room h k = rw (le-leb machine 2 h, lt-leb 8 room k)
 pub serving : (machine room : ℕ) → machine ≤ 2 → 8 ≤ room → served machine room ≡ true
 unfolding served
 serving machine room h k = rw (le-leb machine 2 h, le-leb 8 room k)
+
+module _ (machine room : ℕ) {answer : Bool} (is : answer ≡ served machine room) where
+  pub refuses : not answer ≡ true → served machine room ≡ false
+  refuses h = sym is ∙ not-true answer h
+
+  pub accepts : not answer ≡ false → served machine room ≡ true
+  accepts h = sym is ∙ not-false answer h
 
 module _ (machine : ℕ) (w arguments : List ℕ) (fuel N τ : ℕ) (ws out : List ℕ) where
   pub turned-away : served machine (length out) ≡ false → Called machine w arguments fuel N τ ws out ws out 1

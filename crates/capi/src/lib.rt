@@ -11,7 +11,7 @@ ghost use mathlib.Core.Path.{_≡_};
 ghost use lib.ListN.{length};
 ghost use Rattle.machine.specs.Workspace.{leftBy};
 ghost use Rattle.capi.specs.Words.{answerWords, written};
-ghost use Rattle.capi.specs.Calls.{answerBy, Called};
+ghost use Rattle.capi.specs.Calls.{answerBy, served, Called};
 ghost use Rattle.graph_answers.specs.Answers.{graphedOf, graphLeft};
 ghost use Rattle.capi.specs.Graphs.{scheduleBy, graphWords, GraphCalled};
 
@@ -94,6 +94,19 @@ fn answered(
     machine::heartbeat(table, args, Fuel(fuel), period, tau, workspace)
 }
 
+// Whether a call is served: its machine is known, and it lends eight answer words or more.
+fn serves(machine: u32, room: usize) -> bool
+    ensures { λ r. ⌜ r ≡ served machine room ⌝ }
+{
+    if 2 < machine {
+        return false;
+    }
+    if room < 8 {
+        return false;
+    }
+    true
+}
+
 // Runs a machine, 0 sequential, 1 parallel or 2 heartbeat, and returns 0 with the answer's words, as many as are lent, at the front of
 // `answer`; for an unknown machine or fewer than eight answer words it returns 1 and changes nothing.
 #[no_mangle]
@@ -109,10 +122,7 @@ pub extern "C" fn mondupil_run(
 ) -> u32
     ensures { λ r. ⌜ Called machine (now (table .entry)) (now (args .entry)) fuel period tau (now (workspace .entry)) (now (answer .entry)) (now (workspace .exit)) (now (answer .exit)) r ⌝ }
 {
-    if 2 < machine {
-        return TURNED_AWAY;
-    }
-    if answer.len() < 8 {
+    if !serves(machine, answer.len()) {
         return TURNED_AWAY;
     }
     let told = answered(machine, table, args, fuel, period, tau, workspace);
@@ -181,10 +191,7 @@ pub extern "C" fn mondupil_run_graph(
 ) -> u32
     ensures { λ r. ⌜ GraphCalled machine (now (table .entry)) (now (args .entry)) fuel period tau (now (workspace .entry)) (now (graph .entry)) (now (answer .entry)) (now (workspace .exit)) (now (graph .exit)) (now (answer .exit)) r ⌝ }
 {
-    if 2 < machine {
-        return TURNED_AWAY;
-    }
-    if answer.len() < 8 {
+    if !serves(machine, answer.len()) {
         return TURNED_AWAY;
     }
     let told = graphed(machine, table, args, fuel, period, tau, workspace, graph);

@@ -373,9 +373,11 @@ module _ (w ws ls : List ℕ) (size : ℕ) (plan : Plan) (g : Compact) (lent : L
       let moved = rw (returns, top .2, and-none (leb (plan .period) i)) at e in
       let to : after-turn graphs N b v (top .0) T i x u ≡ H = cc in
       let tracks = rw (top .2, o .2) at tr in
-      let w1 = turn-within tracks in
-      (rw deep at w1, λ p r same kept other. subst (TracksState N (lent-turned lent n k (placeAt ws at)) (count-ended n k) p r) to
-      (tracks-places (rw deep at (tracks-turn tracks r v (ap r deep ∙ kept) (λ j z. other j (λ y. z (y ∙ sym deep))))) p r (λ j y. same j) (λ j y. refl)))
+      let w1 = turn-within tracks in (
+        rw deep at w1,
+        λ p r same kept other. subst (TracksState N (lent-turned lent n k (placeAt ws at)) (count-ended n k) p r) to
+            (tracks-places (rw deep at (tracks-turn tracks r v (ap r deep ∙ kept) (λ j z. other j (λ y. z (y ∙ sym deep))))) p r (λ j y. same j) (λ j y. refl)),
+      )
 
   -- the join
   join-tracked : (G H : State graphs N) → step-by graphs N (plan .fuel .0) (size / 32) (plan .birth) (plan .period) G ≡ ongoing H → Over w (plan .tau) ws ls (full g) G
@@ -402,9 +404,12 @@ module _ (w ws ls : List ℕ) (size : ℕ) (plan : Plan) (g : Compact) (lent : L
       let w1 = rw deep at (join-within tracks) in
       let placed = tracks .placed in
       let w0 : placeAt ws (length T) ≤ rightAt ws (length T) = omega (arith, placed .0, placed .1) in
-      let w2 : placeAt ws at ≤ rightAt ws at = rw deep at w0 in
-      (omega arith, w1, λ p r same also. subst (TracksState N (lent-joined lent n k (placeAt ws at) (rightAt ws at)) (count-ended n k) p r) to
-      (tracks-places (rw deep at (tracks-join tracks)) p r (λ j y. same j) (λ j y. also j)))
+      let w2 : placeAt ws at ≤ rightAt ws at = rw deep at w0 in (
+        omega arith,
+        w1,
+        λ p r same also. subst (TracksState N (lent-joined lent n k (placeAt ws at) (rightAt ws at)) (count-ended n k) p r) to
+            (tracks-places (rw deep at (tracks-join tracks)) p r (λ j y. same j) (λ j y. also j)),
+      )
 
 -- THE INVARIANT AFTER A FREE MOVE, and what writing it asks for
 module _ {w arguments : List ℕ} {size : ℕ} {plan : Plan} {ws ls : List ℕ} {g : Compact} {lent : List ℕ} {n : ℕ}

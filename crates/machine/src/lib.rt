@@ -240,7 +240,15 @@ fn alone(
     ensures { λ r. ⌜ (Tells (now (words .entry)) (now (arguments .entry)) (settings .fuel .0) (settings .period) (settings .tau) (length (now (workspace .entry))) birth pace r) × (now (workspace .exit) ≡ leftBy r (now (workspace .entry))) ⌝ }
 {
     let mut none = [0u32; 0];
-    let ran = machine(words, arguments, settings, birth, pace, workspace, &mut none);
+    let ran = machine(
+        words,
+        arguments,
+        settings,
+        birth,
+        pace,
+        workspace,
+        &mut none,
+    );
     ran.answer
 }
 

@@ -302,7 +302,6 @@ module _ (w ws ls : List ℕ) (plan : Plan) (g : Compact) (c : Calm w ws ls plan
   pub settles : Settles plan o
   settles = move-settles w ws ls plan g c ws′ ls′ o (rw e at m)
 
-
 -- to a frame that is not promoted
 pub paid-strides : (w ws ls : List ℕ) (plan : Plan) (g : Compact) (v top kind : ℕ) (q : Returning w ws ls plan g v top kind) → kind < 7 → (s : Registers) → s ≡ full g
     → (ws′ ls′ : List ℕ) (o : Step) → Stepped w ws ls plan s ws′ ls′ o → (r : Progress) → r ≡ settledOf plan o → Strides w ws ls plan g ws′ ls′ r

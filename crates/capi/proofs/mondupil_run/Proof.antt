@@ -1,14 +1,16 @@
--- `capi::mondupil_run` meets its contract: it is served or not, by its two tests (proofs/Serving.antt). Assumes nothing.
+-- `capi::mondupil_run` meets its contract: it is served or not (proofs/Serving.antt). Assumes nothing.
 use borrow.Author.Needs.{needs}
-use Rattle.capi.proofs.Serving.{unknown, cramped, serving, turned-away, told}
+use Rattle.capi.proofs.Serving.{refuses, accepts, turned-away, told}
 use Rattle.capi.proofs.mondupil_run.Statement.{statement}
 use Rattle.capi.proofs.mondupil_run.Tie as tie
 
-returns : tie.Need-returns
-returns c = turned-away (c .before .before .before .before .before .args .machine) (c .before .before .before .before .before .args .table .now) (c .before .before .before .before .before .args .args .now) _ _ _ _ _ (unknown _ _ (c .if1 .taken))
+serves-requires : tie.Need-serves-requires
+serves-requires c κs = search needs
 
-returns-2 : tie.Need-returns-2
-returns-2 c = turned-away (c .before .before .before .before .before .before .args .machine) (c .before .before .before .before .before .before .args .table .now) (c .before .before .before .before .before .before .args .args .now) _ _ _ _ _ (cramped _ _ (c .before .if1 .left) (c .if2 .taken))
+returns : tie.Need-returns
+returns c =
+    let a = c .before .before .before .before .before .before .args in
+    turned-away (a .machine) (a .table .now) (a .args .now) _ _ _ _ _ (refuses (a .machine) _ (c .before .serves .ensures) (c .if1 .taken))
 
 answered-requires : tie.Need-answered-requires
 answered-requires c κs = search needs
@@ -28,23 +30,23 @@ same-length c = search needs
 same-length-2 : tie.Need-same-length-2
 same-length-2 c = search needs
 
-returns-3 : tie.Need-returns-3
-returns-3 c =
+returns-2 : tie.Need-returns-2
+returns-2 c =
     let a = c .before .before .before .before .before .before .before .before .before .before .before .before .before .before .before .before .args in
     let r = c .before .before .before .before .before .before .before .before .answered in
-    told (a .machine) (a .table .now) (a .args .now) _ _ _ _ _ (r .result) _ _ (serving _ _ (c .before .before .before .before .before .before .before .before .before .before .before .if1 .left) (c .before .before .before .before .before .before .before .before .before .before .if2 .left)) (r .ensures .0)
+    told (a .machine) (a .table .now) (a .args .now) _ _ _ _ _ (r .result) _ _ (accepts (a .machine) _ (c .before .before .before .before .before .before .before .before .before .before .before .serves .ensures) (c .before .before .before .before .before .before .before .before .before .before .if1 .left)) (r .ensures .0)
     (r .ensures .1) (rw (← c .before .before .before .before .before .words-of .ensures) (c .before .before .write .ensures))
 
 pub mondupil-run-spec : {M : Type 1} → statement M
 mondupil-run-spec =
     tie.close
     (tie.spec
+    serves-requires
     returns
-    returns-2
     answered-requires
     words-of-requires
     slice-aggregate-write
     write-requires
     same-length
     same-length-2
-    returns-3)
+    returns-2)

@@ -1,15 +1,17 @@
--- `capi::mondupil_run_graph` meets its contract.
-use Rattle.capi.proofs.Graphs.{turned-away, told}
-use Rattle.capi.proofs.Serving.{unknown, cramped, serving}
+-- `capi::mondupil_run_graph` meets its contract: it is served or not (proofs/Serving.antt). Assumes nothing.
 use borrow.Author.Needs.{needs}
+use Rattle.capi.proofs.Serving.{refuses, accepts}
+use Rattle.capi.proofs.Graphs.{turned-away, told}
 use Rattle.capi.proofs.mondupil_run_graph.Statement.{statement}
 use Rattle.capi.proofs.mondupil_run_graph.Tie as tie
 
-returns : tie.Need-returns
-returns c = let a = c .before .before .before .before .before .before .args in turned-away (a .machine) (a .table .now) (a .args .now) _ _ _ _ _ _ (unknown _ _ (c .if1 .taken))
+serves-requires : tie.Need-serves-requires
+serves-requires c κs = search needs
 
-returns-2 : tie.Need-returns-2
-returns-2 c = let a = c .before .before .before .before .before .before .before .args in turned-away (a .machine) (a .table .now) (a .args .now) _ _ _ _ _ _ (cramped _ _ (c .before .if1 .left) (c .if2 .taken))
+returns : tie.Need-returns
+returns c =
+    let a = c .before .before .before .before .before .before .before .args in
+    turned-away (a .machine) (a .table .now) (a .args .now) _ _ _ _ _ _ (refuses (a .machine) _ (c .before .serves .ensures) (c .if1 .taken))
 
 graphed-requires : tie.Need-graphed-requires
 graphed-requires c κs = search needs
@@ -32,18 +34,19 @@ same-length-2 c = search needs
 same-length-3 : tie.Need-same-length-3
 same-length-3 c = search needs
 
-returns-3 : tie.Need-returns-3
-returns-3 c = let a = c .before .before .before .before .before .before .before .before .before .before .before .before .before .before .before .before .before .before .before .before .args in
+returns-2 : tie.Need-returns-2
+returns-2 c =
+    let a = c .before .before .before .before .before .before .before .before .before .before .before .before .before .before .before .before .before .before .before .before .args in
     let r = c .before .before .before .before .before .before .before .before .before .before .graphed in
-    told (a .machine) (a .table .now) (a .args .now) _ _ _ _ _ _ (r .result) _ _ _ (serving _ _ (c .before .before .before .before .before .before .before .before .before .before .before .before .before .before .if1 .left) (c .before .before .before .before .before .before .before .before .before .before .before .before .before .if2 .left)) (r .ensures .0)
+    told (a .machine) (a .table .now) (a .args .now) _ _ _ _ _ _ (r .result) _ _ _ (accepts (a .machine) _ (c .before .before .before .before .before .before .before .before .before .before .before .before .before .before .serves .ensures) (c .before .before .before .before .before .before .before .before .before .before .before .before .before .if1 .left)) (r .ensures .0)
     (r .ensures .1 .0) (r .ensures .1 .1) (rw (← c .before .before .before .before .before .graph-words-of .ensures) (c .before .before .write .ensures))
 
 pub mondupil-run-graph-spec : {M : Type 1} → statement M
 mondupil-run-graph-spec =
     tie.close
     (tie.spec
+    serves-requires
     returns
-    returns-2
     graphed-requires
     graph-words-of-requires
     slice-aggregate-write
@@ -51,4 +54,4 @@ mondupil-run-graph-spec =
     same-length
     same-length-2
     same-length-3
-    returns-3)
+    returns-2)

@@ -37,10 +37,10 @@ returns c = let p = c .before .before .before .before .before .before .before .b
 returns-2 : tie.Need-returns-2
 unfolding leftBy
 returns-2 c = let p = c .before .before .before .before .before .before .before .before .before in (
-      tells-refusal (p .args .words .now) (p .args .arguments .now) _ _ _ _ _ _ (c .before .before .before .before .checked .ensures .0) _ (c .before .read .given .1) (omega arith) _ _,
-      refl,
-      lends-refusal (p .args .words .now) (p .args .arguments .now) _ _ _ _ _ _ (c .before .before .before .before .checked .ensures .0) (omega arith) _ (c .before .read .given .1) _ _ _,
-    )
+  tells-refusal (p .args .words .now) (p .args .arguments .now) _ _ _ _ _ _ (c .before .before .before .before .checked .ensures .0) _ (c .before .read .given .1) (omega arith) _ _,
+  refl,
+  lends-refusal (p .args .words .now) (p .args .arguments .now) _ _ _ _ _ _ (c .before .before .before .before .checked .ensures .0) (omega arith) _ (c .before .read .given .1) _ _ _,
+)
 
 pub machine-spec : {M : Type 1} → statement M
 machine-spec =
