@@ -143,8 +143,8 @@ uint32_t mondupil_run(uint32_t machine,
  * heartbeat machine's answer is a 25, then what is said there of a sequential value holds. If one of them is, beside a sequential value,
  * its run has the same value, and the two inequalities and the equation hold with the counts that mondupil_run answers for that run. All
  * three have the same depth, a 25 among them; and if the sequential machine's answer is a stop with 21, 22, 23 or 24, what is said there
- * holds in any case, since a 25 comes after every other stop. The last three are stated of the answers, in
- * crates/graph_answers/specs/Claim.antt. */
+ * holds in any case, since a 25 comes after every other stop. The promises are in crates/capi/specs/Graphs.antt; that
+ * of a 25 beside a sequential value is stated of the answers, in crates/graph_answers/specs/Claim.antt. */
 uint32_t mondupil_run_graph(uint32_t machine,
                             const uint32_t *table, size_t table_len,
                             const uint64_t *args, size_t args_len,

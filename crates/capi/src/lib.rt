@@ -153,7 +153,7 @@ fn graph_words_of(told: Graphed) -> [u64; 10]
 
 // The machine of this number, as above, with a buffer lent for its cost graph.
 fn graphed(
-    machine: u32,
+    number: u32,
     table: &[u32],
     args: &[u64],
     fuel: u64,
@@ -162,14 +162,14 @@ fn graphed(
     workspace: &mut [u64],
     graph: &mut [u32],
 ) -> Graphed
-    ensures answer { λ r. ⌜ r ≡ graphedOf (scheduleBy machine period) (now (table .entry)) (now (args .entry)) fuel period tau (length (now (workspace .entry))) (length (now (graph .entry))) ⌝ }
+    ensures answer { λ r. ⌜ r ≡ graphedOf (scheduleBy number period) (now (table .entry)) (now (args .entry)) fuel period tau (length (now (workspace .entry))) (length (now (graph .entry))) ⌝ }
     ensures leaves { λ r. ⌜ now (workspace .exit) ≡ leftBy (r .answer) (now (workspace .entry)) ⌝ }
-    ensures writes { λ r. ⌜ now (graph .exit) ≡ graphLeft (scheduleBy machine period) (now (table .entry)) (now (args .entry)) fuel period tau (length (now (workspace .entry))) (now (graph .entry)) ⌝ }
+    ensures writes { λ r. ⌜ now (graph .exit) ≡ graphLeft (scheduleBy number period) (now (table .entry)) (now (args .entry)) fuel period tau (length (now (workspace .entry))) (now (graph .entry)) ⌝ }
 {
-    if machine == 0 {
+    if number == 0 {
         return machine::sequential_graph(table, args, Fuel(fuel), period, tau, workspace, graph);
     }
-    if machine == 1 {
+    if number == 1 {
         return machine::parallel_graph(table, args, Fuel(fuel), period, tau, workspace, graph);
     }
     machine::heartbeat_graph(table, args, Fuel(fuel), period, tau, workspace, graph)

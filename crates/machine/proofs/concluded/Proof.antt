@@ -18,7 +18,7 @@ enum-told : tie.Need-enum-told
 enum-told c = search needs
 
 clear-requires : tie.Need-clear-requires
-clear-requires c κs = value-fits (c .before .before .before .before .before .args .ran .answer) (c .before .before .before .before .before .args .ran .words) _ _ (c .before .before .before .fitted .ensures) _ _ (c .before .enum-told .given .1)
+clear-requires c κs = omega (arith, value-fits (c .before .before .before .before .before .args .ran .answer) _ _ _ (c .before .before .before .fitted .ensures) _ _ (c .before .enum-told .given .1))
 
 enum-told-2 : tie.Need-enum-told-2
 enum-told-2 c = search needs
