@@ -1,5 +1,6 @@
 -- The registers of a run by one counter: credits and span are told by the transitions since the running machine's start.
 use Prim.Native.Nat.{ℕ, _+_, _-_, _≤_, _<_, _^_}
+use mathlib.Core.Path.{_≡_}
 use mathlib.Core.Bool.{cond}
 use lib.Dec.{ltb}
 use Rattle.moves.specs.declared.Control.{Control}
@@ -10,7 +11,7 @@ use Rattle.moves.specs.declared.Step.the-variants as step
 use Rattle.compact.specs.declared.Compact.{Compact}
 use Rattle.compact.specs.declared.Progress.{Progress}
 use Rattle.compact.specs.declared.Event.{Event}
-use Rattle.compact.specs.declared.Progress.the-variants.{Go, Free, Value, Halt}
+use Rattle.compact.specs.declared.Progress.the-variants.{Go, Free, Paused, Value, Halt}
 
 -- THE REGISTERS that they stand for
 abbrev pub full : Compact → Registers
@@ -25,9 +26,11 @@ full g = record {
   deepest = g .deepest;
 }
 
+-- the step that a progress is; a pause is none, and what is told of it here is never asked
 unfoldable pub stepOf : Progress → Step
 stepOf (Go g) = step.Go (full g)
 stepOf (Free g event) = step.Go (full g)
+stepOf (Paused p) = step.Value 0
 stepOf (Value v) = step.Value v
 stepOf (Halt h) = step.Halt h
 
@@ -35,15 +38,17 @@ stepOf (Halt h) = step.Halt h
 unfoldable pub limitOf : Plan → ℕ → ℕ → ℕ
 limitOf plan since oldest = cond (ltb oldest 4096) (cond (ltb (plan .period) (plan .fuel .0 - since)) (since + plan .period) (plan .fuel .0)) (plan .fuel .0)
 
--- what every stride keeps of it
+-- what every stride keeps of it; below the fuel it is where a promotion is due
 pub record Paced (plan : Plan) (g : Compact) : Type 0 where
   pub since : g .since ≤ g .transitions
   pub fuel : g .limit ≤ plan .fuel .0
   pub calm : g .oldest < 4096 → g .limit ≤ g .since + plan .period
+  pub exact : g .limit < plan .fuel .0 → (g .oldest < 4096) × (g .since + plan .period ≤ g .limit)
 
 unfoldable pub PacedBy : Plan → Progress → Type 0
 PacedBy plan (Go g) = Paced plan g
 PacedBy plan (Free g event) = Paced plan g
+PacedBy plan (Paused p) = Unit {0}
 PacedBy plan (Value v) = Unit {0}
 PacedBy plan (Halt h) = Unit {0}
 
@@ -72,6 +77,12 @@ Settles plan (step.Go s) = (s .credits .0 ≤ s .transitions) × (s .transitions
 Settles plan (step.Value v) = Unit {0}
 Settles plan (step.Halt h) = Unit {0}
 
+-- and have no fork
+unfoldable pub Forkless : Step → Type 0
+Forkless (step.Go s) = s .oldest ≡ 4096
+Forkless (step.Value v) = Unit {0}
+Forkless (step.Halt h) = Unit {0}
+
 abbrev pub keptOf : Compact → Registers → Compact
 keptOf g s = record {
   control = s .control;
@@ -94,6 +105,7 @@ keptBy g (step.Halt h) = Halt h
 unfoldable pub freedBy : Event → Progress → Progress
 freedBy event (Go g) = Free g event
 freedBy event (Free g before) = Free g before
+freedBy event (Paused p) = Paused p
 freedBy event (Value v) = Value v
 freedBy event (Halt h) = Halt h
 
@@ -101,6 +113,7 @@ freedBy event (Halt h) = Halt h
 unfoldable pub Transits : Compact → Progress → Type 0
 Transits g (Go next) = g .transitions < next .transitions
 Transits g (Free next event) = ⊥
+Transits g (Paused p) = ⊥
 Transits g (Value v) = Unit {0}
 Transits g (Halt h) = Unit {0}
 

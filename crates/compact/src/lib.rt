@@ -12,8 +12,8 @@ ghost use mathlib.Core.Path.{_≡_};
 ghost use mathlib.Core.Bool.{true, _&&_};
 ghost use Prim.Native.Nat.{_+_, _<_, _≤_, _^_, max};
 ghost use lib.Dec.{ltb, leb};
-ghost use Rattle.moves.specs.Ready.{Framed, transited, Opened};
-ghost use Rattle.compact.specs.Compact.{full, stepOf, limitOf, Paced, PacedBy, compactOf, settledOf, Settles, keptBy, freedBy, Transits, laterOf, Small, Roomy};
+ghost use Rattle.moves.specs.Ready.{Framed, Paid, Opened};
+ghost use Rattle.compact.specs.Compact.{full, stepOf, limitOf, Paced, PacedBy, compactOf, settledOf, Settles, Forkless, keptBy, freedBy, Transits, laterOf, Small, Roomy};
 
 // The registers of a run by one counter. Credits and span are told by the transitions since the running machine's start.
 pub struct Compact {
@@ -39,10 +39,21 @@ pub enum Event {
     Join(usize),
 }
 
-// What a stride comes to: registers to go on with after transitions, or after a free move with its event; a value or a stop.
+// Why no stride is made: the limit is reached; a promotion is due; a fork that is promoted at its birth is next; a value arrives at a promoted
+// fork, which awaits its left or its right.
+pub enum Pause {
+    Limit,
+    Promotion,
+    Fork(Seat),
+    Turn(u64, usize),
+    Join(u64, usize, u64),
+}
+
+// What a stride comes to: registers to go on with after transitions, or after a free move with its event; a pause; a value or a stop.
 pub enum Progress {
     Go(Compact),
     Free(Compact, Event),
+    Paused(Pause),
     Value(u64),
     Halt(Stopped),
 }
@@ -126,8 +137,38 @@ pub fn settle(plan: Plan, step: Step) -> Progress
     }
 }
 
+// The same where a machine begins and has no fork: its limit is the fuel.
+pub fn restart(plan: Plan, step: Step) -> Progress
+    requires { ⌜ (Settles plan step) × (Forkless step) ⌝ }
+    ensures { λ r. ⌜ r ≡ settledOf plan step ⌝ }
+{
+    match step {
+        Step::Go(s) => {
+            let control = s.control;
+            let credits = s.credits;
+            let span = s.span;
+            let fuel = plan.fuel;
+            let since = s.transitions - credits.0;
+            let before = Span(span.0 - credits.0);
+            Progress::Go(Compact {
+                control,
+                depth: s.depth,
+                oldest: s.oldest,
+                transitions: s.transitions,
+                since,
+                before,
+                limit: fuel.0,
+                forks: s.forks,
+                deepest: s.deepest,
+            })
+        }
+        Step::Value(v) => Progress::Value(v),
+        Step::Halt(h) => Progress::Halt(h),
+    }
+}
+
 // The same where the machine goes on and has the same oldest fork: its start and its limit are kept.
-fn keep(g: Compact, step: Step) -> Progress
+pub fn keep(g: Compact, step: Step) -> Progress
     ensures { λ r. ⌜ r ≡ keptBy g step ⌝ }
 {
     match step {
@@ -158,6 +199,7 @@ pub fn free(progress: Progress, event: Event) -> Progress
     match progress {
         Progress::Go(g) => Progress::Free(g, event),
         Progress::Free(g, before) => Progress::Free(g, before),
+        Progress::Paused(p) => Progress::Paused(p),
         Progress::Value(v) => Progress::Value(v),
         Progress::Halt(h) => Progress::Halt(h),
     }
@@ -214,19 +256,10 @@ pub fn open(
     seat: Seat,
     kind: u64,
 ) -> Progress
-    requires { ⌜ (Framed (now ws) (now locals) (full g) seat) × (Paced plan g) ⌝ }
+    requires { ⌜ (Framed (now ws) (now locals) (full g) seat) × (Paced plan g) × (Paid plan (full g)) ⌝ }
     ensures { λ r. ⌜ (Opened (now (ws .entry)) (now (ws .exit)) (now (locals .entry)) plan (full g) seat kind (g .oldest) (stepOf r)) × (PacedBy plan r) × (Transits g r) ⌝ }
 {
     let step = moves::open(ws, locals, plan, expand(g), seat, kind, g.oldest);
-    keep(g, step)
-}
-
-// One step that opens no frame.
-pub fn transit(plan: Plan, g: Compact, seat: Seat, control: Control) -> Progress
-    requires { ⌜ (Small g) × (full g .credits .0 < 2 ^ 60) × (full g .span .0 < 2 ^ 60) × (Paced plan g) ⌝ }
-    ensures { λ r. ⌜ (stepOf r ≡ transited plan (full g) seat control) × (PacedBy plan r) × (Transits g r) ⌝ }
-{
-    let step = moves::transit(plan, expand(g), seat, control);
     keep(g, step)
 }
 

@@ -24,6 +24,33 @@ fn put(graph: &mut [u32], at: usize, word: u32)
     }
 }
 
+// Writes two words, with one test where both are within the buffer.
+fn put_two(graph: &mut [u32], at: usize, first: u32, second: u32)
+    requires { ⌜ at < 2 ^ 61 ⌝ }
+    ensures { λ _. ⌜ now (graph .exit) ≡ set (set (now (graph .entry)) at first) (at + 1) second ⌝ }
+{
+    if at + 1 < graph.len() {
+        graph[at] = first;
+        graph[at + 1] = second;
+    } else {
+        put(graph, at, first);
+    }
+}
+
+// Writes a fork's three words, with one test where all are within the buffer. Its lengths are not known yet.
+fn put_head(graph: &mut [u32], at: usize)
+    requires { ⌜ at < 2 ^ 61 ⌝ }
+    ensures { λ _. ⌜ now (graph .exit) ≡ set (set (set (now (graph .entry)) at 1) (at + 1) 0) (at + 2) 0 ⌝ }
+{
+    if at + 2 < graph.len() {
+        graph[at] = FORK;
+        graph[at + 1] = 0;
+        graph[at + 2] = 0;
+    } else {
+        put_two(graph, at, FORK, 0);
+    }
+}
+
 // Ends the stretch: the number of words with it. A stretch of none is no word.
 pub fn end_stretch(graph: &mut [u32], n: usize, k: u64) -> usize
     requires { ⌜ (n < 2 ^ 60) × (k < 2 ^ 32) ⌝ }
@@ -32,8 +59,7 @@ pub fn end_stretch(graph: &mut [u32], n: usize, k: u64) -> usize
     if k == 0 {
         return n;
     }
-    put(graph, n, STRETCH);
-    put(graph, n + 1, k as u32);
+    put_two(graph, n, STRETCH, k as u32);
     n + 2
 }
 
@@ -43,9 +69,7 @@ pub fn fork(graph: &mut [u32], n: usize, k: u64) -> usize
     ensures { λ r. ⌜ (r ≡ count-ended n k) × (now (graph .exit) ≡ lent-forked (now (graph .entry)) n k) ⌝ }
 {
     let place = end_stretch(graph, n, k);
-    put(graph, place, FORK);
-    put(graph, place + 1, 0);
-    put(graph, place + 2, 0);
+    put_head(graph, place);
     place
 }
 

@@ -2,5 +2,6 @@
 pub mod Places
 pub mod Running
 pub mod Tracking
+pub mod Looping
 pub mod Machines
 pub mod Concluding

@@ -2,14 +2,16 @@
 --     placeAt, rightAt     the places, by the frame's number
 --     Alike                words that differ at most in places
 --     ready-alike          they hold the same state
+--     starts-alike         so that a stride starts from both, and a pause awaits the same move in both
+--     marked-alike, ..     a mark leaves words that are alike
 --     oldest-is            the oldest plain fork is the one that a promotion promotes
-use Prim.Native.Nat.{ℕ, zero, suc, _+_, _*_, _/_, _<_, _≤_}
-use mathlib.Core.Path.{_≡_, refl, sym, ap, _∙_}
+use Prim.Native.Nat.{ℕ, zero, suc, _+_, _*_, _<_, _≤_}
+use mathlib.Core.Path.{_≡_, refl, sym, _∙_}
 use mathlib.Core.Bool.{true, false}
 use mathlib.Core.List.{List, _∷_}
 use native.Mathlib.Omega.{arith}
 use native.Mathlib.Decide.{decLt}
-use lib.ListN.{length, getD, set, length-set}
+use lib.ListN.{length, getD, length-set}
 use lib.Seq.{getD-set-same, getD-set-other}
 use borrow.Author.Tests.{lt-ltb, le-ltb}
 use Rattle.schedule.specs.Machine.{Slot, promotable}
@@ -19,10 +21,19 @@ use Rattle.language.specs.Language.{Code, Frame}
 use Rattle.moves.specs.declared.Registers.{Registers}
 use Rattle.moves.specs.declared.Plan.{Plan}
 use Rattle.moves.specs.Layout.{codeAt, slotOf, stackOf}
-use Rattle.moves.specs.Ready.{Held, Oldest, Kept, Ready}
+use Rattle.moves.specs.Ready.{Held, Oldest, Ready}
 use Rattle.moves.proofs.Stacks.{length-stack, slot-agrees}
 use Rattle.moves.proofs.Promotion.{due-is}
 use Rattle.graph.proofs.Tracking.{oldest-in}
+use Rattle.graph.specs.Writing.{count-ended}
+use Rattle.compact.specs.declared.Compact.{Compact}
+use Rattle.compact.specs.declared.Event.{Event}
+use Rattle.compact.specs.declared.Event.the-variants.{Fork, Turn, Join}
+use Rattle.compact.specs.declared.Pause.{Pause}
+use Rattle.compact.specs.declared.Pause.the-variants as pause
+use Rattle.compact.specs.Compact.{full}
+use Rattle.strides.specs.Strides.{Starts, Calm, Returning, Awaits}
+use Rattle.marks.specs.Marks.{placesMarked, Marked}
 
 abbrev pub placeAt : List ℕ → ℕ → ℕ
 placeAt ws j = framePlace ws (32 * j)
@@ -70,7 +81,7 @@ module _ (w ws ws′ : List ℕ) (table : WellFormed w) (long : length ws′ ≡
       let one = slot-agrees w ws ws′ table long (32 * d) (omega arith) (alike d) (t .0) in
       (rw (one .0, rest .0), (one .1, rest .1))
 
-  kind-alike : (j : ℕ) → frameKind ws (32 * j) ≡ frameKind ws′ (32 * j)
+  pub kind-alike : (j : ℕ) → frameKind ws (32 * j) ≡ frameKind ws′ (32 * j)
   kind-alike j = alike j (32 * j) (omega arith) (omega arith)
 
   oldest-alike : (d o : ℕ) → Oldest ws d o → Oldest ws′ d o
@@ -100,6 +111,45 @@ module _ (w ws ws′ : List ℕ) (table : WellFormed w) (long : length ws′ ≡
           bounded = rw (long, ← same .0) (r .bounded);
         },
       )
+
+  -- A STRIDE STARTS from both, and a pause awaits the same move
+  module _ {ls : List ℕ} {plan : Plan} {g : Compact} where
+    pub starts-alike : Starts w ws ls plan g → Starts w ws′ ls plan g
+    starts-alike s = record { ready = ready-alike ls plan (full g) (s .ready) .1; paced = s .paced }
+
+    calm-alike : Calm w ws ls plan g → Calm w ws′ ls plan g
+    calm-alike c = record { starts = starts-alike (c .starts); not-due = c .not-due }
+
+    returning-alike : {v top kind : ℕ} → Returning w ws ls plan g v top kind → Returning w ws′ ls plan g v top kind
+    returning-alike {v} {top} q = record { calm = calm-alike (q .calm); is = q .is; depth = q .depth; of-kind = sym (kind-alike top) ∙ q .of-kind }
+
+  pub awaits-alike : (ls : List ℕ) (plan : Plan) (g : Compact) (p : Pause) → Awaits w ws ls plan g p → Awaits w ws′ ls plan g p
+  unfolding Awaits
+  awaits-alike ls plan g pause.Limit a = a
+  awaits-alike ls plan g pause.Promotion a = a
+  awaits-alike ls plan g (pause.Fork seat) a = (calm-alike (a .0), a .1, a .2, a .3)
+  awaits-alike ls plan g (pause.Turn v top) a = returning-alike a
+  awaits-alike ls plan g (pause.Join v top kind) a = (returning-alike (a .0), a .1)
+
+-- A MARK leaves words that are alike
+module _ {ws graph : List ℕ} {n made : ℕ} {event : Event} {ws′ graph′ : List ℕ} {r : ℕ} (x : Marked ws graph n made event ws′ graph′ r) where
+  pub marked-alike : (length ws′ ≡ length ws) × Alike ws ws′
+  marked-alike = on (decLt 0 (length graph))
+    where
+      by : (ev : Event) → (length (placesMarked ws n made ev) ≡ length ws) × Alike ws (placesMarked ws n made ev)
+      by (Fork at) = unfold placesMarked in (length-set ws (32 * at + 27) (count-ended n made), alike-placed ws at (count-ended n made))
+      by (Turn at) = unfold placesMarked in (length-set ws (32 * at + 28) (count-ended n made), alike-right ws at (count-ended n made))
+      by (Join at) = unfold placesMarked in (refl, λ j i y z. refl)
+
+      on : Dec (0 < length graph) → (length ws′ ≡ length ws) × Alike ws ws′
+      on (yes h) = rw (x .some h .0) (by event)
+      on (no h) = rw (x .none (omega arith) .0) (refl, λ j i y z. refl)
+
+  pub marked-starts : {w ls : List ℕ} {plan : Plan} {g : Compact} → Starts w ws ls plan g → Starts w ws′ ls plan g
+  marked-starts {w} s = starts-alike w ws ws′ (s .ready .kept .table) (marked-alike .0) (marked-alike .1) s
+
+  pub marked-awaits : {w ls : List ℕ} {plan : Plan} {g : Compact} → Starts w ws ls plan g → (p : Pause) → Awaits w ws ls plan g p → Awaits w ws′ ls plan g p
+  marked-awaits {w} {ls} {plan} {g} s p a = awaits-alike w ws ws′ (s .ready .kept .table) (marked-alike .0) (marked-alike .1) ls plan g p a
 
 -- THE OLDEST PLAIN FORK is the one that a promotion promotes
 oldest-up : (k : ℕ) (c : Code) (v : ℕ) (vs : List ℕ) (g l : ℕ) (S : List (Slot ℕ Frame Code)) → k < 7 → promotable S ≡ true → oldest-in (slotOf k c v vs g l ∷ S) ≡ oldest-in S

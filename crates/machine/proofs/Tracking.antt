@@ -3,22 +3,24 @@
 --     Tracking                the loop's invariant: there is such a state, whose run is the whole run over graphs, and the buffer tracks it
 --     tracking-first          at the start
 --     tracking-go             after transitions
---     markable, tracking-free what a free move asks for, and the invariant after it
+--     tracking-far            after strides, one after the other
+--     free-markable           what the words of a free move ask for
+--     free-next               the invariants after it
 --     small-end, wrote        at the end
-use Prim.Native.Nat.{ℕ, zero, suc, _+_, _-_, _*_, _/_, _<_, _≤_, _^_}
+use Prim.Native.Nat.{ℕ, _+_, _-_, _*_, _/_, _<_, _≤_}
 use mathlib.Core.Path.{_≡_, refl, sym, ap, _∙_, subst}
 use mathlib.Core.Logic.{⊎-elim}
 use mathlib.Core.Bool.{Bool, true, false, cond, true≢false, _&&_}
 use mathlib.Core.List.{List, [], _∷_}
 use native.Mathlib.Omega.{arith}
 use native.Mathlib.Decide.{decLt}
-use lib.ListN.{length, take, length-set, List·getD-eq-default}
+use lib.ListN.{length, take, List·getD-eq-default}
 use lib.Dec.{ltb, leb}
 use borrow.Author.Tests.{ltb-true}
-use Rattle.schedule.specs.Graph.{Graph, empty, span}
+use Rattle.schedule.specs.Graph.{Graph, span}
 use Rattle.schedule.specs.Algebra.{graphs, spans}
-use Rattle.schedule.specs.FrameMachine.{Control, evaluate, return, FrameMachine}
-use Rattle.schedule.specs.Machine.{Slot, ordinary, plain-left, plain-right, promoted-left, promoted-right, Stack, promotable, promote, Ending, value, stop, RunCounts, split, deeper, State, state, Result, ended, ongoing, Schedule, after-promotion, after-turn, after-join, move, step, start}
+use Rattle.schedule.specs.FrameMachine.{return, FrameMachine}
+use Rattle.schedule.specs.Machine.{Slot, ordinary, plain-left, plain-right, promoted-left, promoted-right, Stack, promotable, value, RunCounts, split, deeper, State, state, Result, ended, ongoing, Schedule, after-promotion, after-turn, after-join, move, step, start}
 use Rattle.schedule.specs.Runs.{and-then, run, outcome}
 use Rattle.schedule.specs.Bounds.{step-by, Flags}
 use Rattle.schedule.specs.Homomorphism.{map-stack, map-state, map-outcome}
@@ -27,22 +29,21 @@ use Rattle.schedule.proofs.Homomorphism.{length-map, promotable-map, span-carri
 use Rattle.schedule.proofs.Runs.{run-next}
 use Rattle.schedule.proofs.Stretch.{run-then}
 use Rattle.schedule.proofs.Bounds.{start-measure}
-use Rattle.frames.specs.Frames.{frameKind, frameValue, frameBefore, frameLeft, frameArguments, placed, rightPlaced}
+use Rattle.table.specs.WellFormed.{WellFormed}
+use Rattle.frames.specs.Frames.{frameValue, frameBefore, frameLeft, frameArguments, placed, rightPlaced}
 use Rattle.graph.specs.Words.{written}
-use Rattle.graph.specs.Writing.{Placed, count-ended, lent-ended, lent-forked, lent-turned, lent-joined, Tracks, TracksState}
-use Rattle.graph.proofs.Holding.{counted-few, length-end}
+use Rattle.graph.specs.Writing.{Placed, count-ended, lent-ended, lent-forked, lent-turned, lent-joined, TracksState}
+use Rattle.graph.proofs.Holding.{counted-few}
 use Rattle.graph.proofs.Runs.{made, Within, StepBy, promoting, moving, step-by-view, first-step, no-steps, risen-at-most, within-steps, flags-step, runs-same, step-by-map, steps-map, lifted}
 use Rattle.graph.proofs.Tracking.{oldest-in, tracks-start, tracks-places, tracks-promotion, tracks-birth, turn-within, tracks-turn, join-within, tracks-join, tracks-value, tracks-steps}
 use Rattle.language.specs.Language.{Code, Frame, language}
-use Rattle.language.specs.Checks.{framesIn}
 use Rattle.language.specs.Answers.{entryCode}
-use Rattle.moves.specs.declared.Control.the-variants.{Ret}
 use Rattle.moves.specs.declared.Registers.{Registers}
 use Rattle.moves.specs.declared.Plan.{Plan}
 use Rattle.moves.specs.declared.Step.{Step}
 use Rattle.moves.specs.declared.Step.the-variants.{Go, Value, Halt}
 use Rattle.moves.specs.Layout.{codeAt, slots, slotOf, slotAt, stackOf, controlOf, runCountsOf, stateOf, resultOf}
-use Rattle.moves.specs.Ready.{Spared, Advanced}
+use Rattle.moves.specs.Ready.{Spared}
 use Rattle.moves.proofs.Stacks.{length-stack, stack-more}
 use Rattle.moves.proofs.Promotion.{due-is}
 use Rattle.compact.specs.declared.Compact.{Compact}
@@ -50,13 +51,16 @@ use Rattle.compact.specs.declared.Event.{Event}
 use Rattle.compact.specs.declared.Event.the-variants.{Fork, Turn, Join}
 use Rattle.compact.specs.declared.Progress.{Progress}
 use Rattle.compact.specs.declared.Progress.the-variants as progress
-use Rattle.compact.specs.Compact.{full, stepOf, Paced, compactOf}
-use Rattle.strides.specs.Strides.{Many, Starts, Calm, Returning, Forks, promoted, born, Occurs, Marks, Strides}
+use Rattle.compact.specs.declared.Pause.{Pause}
+use Rattle.compact.specs.declared.Pause.the-variants as pause
+use Rattle.compact.specs.Compact.{full, stepOf, Transits, compactOf}
+use Rattle.strides.specs.Strides.{Many, one, Starts, Returning, promoted, born, Occurs, Strides, Frees, Awaits}
 use Rattle.marks.specs.Marks.{Small, Framed, Markable, placesMarked, graphMarked, countMarked, Marked}
+use Rattle.machine.specs.Loop.{Far, here, more, Stays, eventOf, Fits}
 use Rattle.machine.specs.Runs.{begun, Begins}
-use Rattle.machine.specs.Written.{Finished, Holds, Wrote}
-use Rattle.machine.proofs.Places.{placeAt, rightAt, Alike, alike-placed, alike-right, place-kept, place-other, place-right, right-kept, right-other, right-place, ready-alike, oldest-is}
-use Rattle.machine.proofs.Running.{Running, to-go, one-many, strode-exact, advances, running-less, running-next, last-step, goes-free, running-alike}
+use Rattle.machine.specs.Written.{Finished, Wrote}
+use Rattle.machine.proofs.Places.{placeAt, rightAt, place-kept, place-other, place-right, right-kept, right-other, right-place, kind-alike, ready-alike, marked-alike, oldest-is}
+use Rattle.machine.proofs.Running.{Running, to-go, one-many, strode-exact, advances, running-less, running-next, running-far, last-step, no-further, running-alike}
 
 -- the counts of a state
 unfoldable forked : {M : FrameMachine} → State graphs M → ℕ
@@ -172,7 +176,7 @@ module _ {w arguments : List ℕ} {size : ℕ} {plan : Plan} {ws ls : List ℕ} 
       onward d h =
           let f = step graphs M fuel cap d in
           let same = runs-same graphs M fuel cap (plan .birth) (plan .period) d h (m .more + 1) (t .at) (t .within) ∙ reached .1 in
-          let all : (m .more + 1) + ((t .left - (m .more + 1)) + 1) ≡ t .left + 1 = omega (arith, t .enough, advances r next m .1) in
+          let all : (m .more + 1) + ((t .left - (m .more + 1)) + 1) ≡ t .left + 1 = omega (arith, t .enough, advances (r .long) (r .starts) next m .1) in
           let parts = run-then f (m .more + 1) ((t .left - (m .more + 1)) + 1) (t .at) in
           sym (rw (all, same) at parts) ∙ t .course d h
 
@@ -183,18 +187,18 @@ module _ {w arguments : List ℕ} {size : ℕ} {plan : Plan} {ws ls : List ℕ} 
         over = reached .2;
         within = within-steps graphs M fuel cap (plan .birth) (plan .period) (m .more + 1) (t .at) (reached .0) (reached .1) (t .within);
         left = t .left - (m .more + 1);
-        enough = omega (arith, t .enough, advances r next m .1);
+        enough = omega (arith, t .enough, advances (r .long) (r .starts) next m .1);
         course = onward;
         tracks = i;
       }
 
     -- TRANSITIONS write nothing
-    pub tracking-go : {o : Progress} (st : Strides w ws ls plan g ws′ ls′ o) (next : Compact) → o ≡ progress.Go next → stepOf o ≡ Go (full next) → Tracking w arguments size plan ws′ ls′ next lent n
-    unfolding Marks TracksState
-    tracking-go st next e f =
-        let x = strode-exact r st next f in
+    pub tracking-go : {next : Compact} (st : Strides w ws ls plan g ws′ ls′ (progress.Go next)) → Tracking w arguments size plan ws′ ls′ next lent n
+    unfolding Transits TracksState stepOf
+    tracking-go {next} st =
+        let x = strode-exact (st .strode) (full next) refl in
         let y = reached next (x .0) in
-        let up : g .transitions < next .transitions = rw e at (st .marks) in
+        let up : g .transitions < next .transitions = st .transits in
         let from = over-made w τ ws ls (full g) (t .at) (t .over) in
         let to = over-made w τ ws′ ls′ (full next) (y .0) (y .2) in
         let most = risen-at-most graphs M fuel cap (plan .birth) (plan .period) (x .0 .more + 1) (t .at) (y .0) (y .1) in
@@ -203,12 +207,18 @@ module _ {w arguments : List ℕ} {size : ℕ} {plan : Plan} {ws ls : List ℕ} 
       where
         spared : (H : State graphs M) → TracksState M lent n (placeAt ws) (rightAt ws) H → TracksState M lent n (placeAt ws′) (rightAt ws′) H
         spared (state c S k x u) i =
-            let same = strode-exact r st next f .0 .spared in
+            let same = strode-exact (st .strode) (full next) refl .0 .spared in
             tracks-places i (placeAt ws′) (rightAt ws′) (λ j l. same j .0) (λ j l. same j .1)
+
+-- STRIDES, one after the other
+pub tracking-far : {w arguments : List ℕ} {size : ℕ} {plan : Plan} {ws ls : List ℕ} {g : Compact} {lent : List ℕ} {n : ℕ} → Running w arguments size plan ws ls g
+    → Tracking w arguments size plan ws ls g lent n → {ws′ ls′ : List ℕ} {h : Compact} → Far w plan ws ls g ws′ ls′ h → Tracking w arguments size plan ws′ ls′ h lent n
+tracking-far r t here = t
+tracking-far r t (more f st l) = tracking-go (running-far r f .0) (tracking-far r t f) st
 
 -- OTHER PLACES IN THE FRAMES: the state is the same
 module _ {w arguments : List ℕ} {size : ℕ} {plan : Plan} {ws ls : List ℕ} {g : Compact} {lent : List ℕ} {n : ℕ} where
-  replaced : (t : Tracking w arguments size plan ws ls g lent n) (ws′ : List ℕ) → stackOf ws (g .depth) ≡ stackOf ws′ (g .depth) → (lent′ : List ℕ) (n′ : ℕ)
+  unfoldable replaced : (t : Tracking w arguments size plan ws ls g lent n) (ws′ : List ℕ) → stackOf ws (g .depth) ≡ stackOf ws′ (g .depth) → (lent′ : List ℕ) (n′ : ℕ)
       → (0 < length lent′ → TracksState (language w) lent′ n′ (placeAt ws′) (rightAt ws′) (t .at)) → Tracking w arguments size plan ws′ ls g lent′ n′
   unfolding Over
   replaced t ws′ same lent′ n′ i = record {
@@ -356,37 +366,45 @@ module _ (w ws ls : List ℕ) (size : ℕ) (plan : Plan) (g : Compact) (lent : L
       let count : forked G ≡ g .forks = unfold forked in ap (λ (y : RunCounts). y .forks) (o .4) in
       birth-deep N (plan .fuel .0) (size / 32) lent n (placeAt ws) (rightAt ws) mv (f ∙ ap (λ (y : ℕ). y + 1) (sym count)) ∙ ap (λ (y : ℕ). y + 1) deep
 
-  -- the left's arrival
+  -- the left's arrival: a promoted frame that awaits its left is on top, in both
+  left-here : (S : Stack graphs N) → map-stack (span (plan .tau)) S ≡ stackOf ws (g .depth) → (v at : ℕ) → Returning w ws ls plan g v at 7
+      → (f : Graph) × (T : Stack graphs N) × (S ≡ promoted-left f (codeAt ws (32 * at)) ∷ T) × (length T ≡ at)
+  unfolding slotOf
+  left-here S o v at q =
+      let here : stackOf ws (g .depth) ≡ promoted-left (frameBefore ws (32 * at)) (codeAt ws (32 * at)) ∷ stackOf ws at = rw (q .depth, ← stack-more ws at, q .of-kind) in
+      let top = top-left (span (plan .tau)) S _ _ _ (o ∙ here) in
+      (top .0, top .1, top .2, sym (length-map (span (plan .tau)) (top .1)) ∙ ap length (top .3) ∙ length-stack ws at)
+
+  turn-placed : (G : State graphs N) → Over w (plan .tau) ws ls (full g) G → (v at : ℕ) → Returning w ws ls plan g v at 7 → TracksState N lent n (placeAt ws) (rightAt ws) G
+      → placeAt ws at + 3 ≤ count-ended n k
+  unfolding Over TracksState
+  turn-placed (state d S i x u) o v at q tr =
+      let top = left-here S (o .1) v at q in
+      let tracks = rw (top .2, o .2) at tr in
+      rw (top .3) at (turn-within tracks)
+
   turn-tracked : (G H : State graphs N) → step-by graphs N (plan .fuel .0) (size / 32) (plan .birth) (plan .period) G ≡ ongoing H → Over w (plan .tau) ws ls (full g) G
       → (v at : ℕ) → Returning w ws ls plan g v at 7 → TracksState N lent n (placeAt ws) (rightAt ws) G
-      → (placeAt ws at + 3 ≤ count-ended n k)
-      × ((p r : ℕ → ℕ) → ((j : ℕ) → p j ≡ placeAt ws j) → r at ≡ count-ended n k → ((j : ℕ) → (j ≡ at → ⊥) → r j ≡ rightAt ws j)
-      → TracksState N (lent-turned lent n k (placeAt ws at)) (count-ended n k) p r H)
-  unfolding Over TracksState step-by move controlOf slotOf promotable
-  turn-tracked (state d S i x u) H e o v at q tr =
-      let here : stackOf ws (g .depth) ≡ promoted-left (frameBefore ws (32 * at)) (codeAt ws (32 * at)) ∷ stackOf ws at = rw (q .depth, ← stack-more ws at, q .of-kind) in
-      let top = top-left (span (plan .tau)) S _ _ _ (o .1 ∙ here) in
+      → (p r : ℕ → ℕ) → ((j : ℕ) → p j ≡ placeAt ws j) → r at ≡ count-ended n k → ((j : ℕ) → (j ≡ at → ⊥) → r j ≡ rightAt ws j)
+      → TracksState N (lent-turned lent n k (placeAt ws at)) (count-ended n k) p r H
+  unfolding Over TracksState step-by move controlOf promotable
+  turn-tracked (state d S i x u) H e o v at q tr p r same kept other =
+      let top = left-here S (o .1) v at q in
       let b = codeAt ws (32 * at) in
       let T = top .1 in
       let returns : d ≡ return v = o .0 ∙ rw (q .is) in
-      let deep : length T ≡ at = sym (length-map (span (plan .tau)) T) ∙ ap length (top .3) ∙ length-stack ws at in
+      let deep : length T ≡ at = top .3 in
       let moved = rw (returns, top .2, and-none (leb (plan .period) i)) at e in
       let to : after-turn graphs N b v (top .0) T i x u ≡ H = cc in
       let tracks = rw (top .2, o .2) at tr in
-      let w1 = turn-within tracks in (
-        rw deep at w1,
-        λ p r same kept other. subst (TracksState N (lent-turned lent n k (placeAt ws at)) (count-ended n k) p r) to
-            (tracks-places (rw deep at (tracks-turn tracks r v (ap r deep ∙ kept) (λ j z. other j (λ y. z (y ∙ sym deep))))) p r (λ j y. same j) (λ j y. refl)),
-      )
+      subst (TracksState N (lent-turned lent n k (placeAt ws at)) (count-ended n k) p r) to
+      (tracks-places (rw deep at (tracks-turn tracks r v (ap r deep ∙ kept) (λ j z. other j (λ y. z (y ∙ sym deep))))) p r (λ j y. same j) (λ j y. refl))
 
-  -- the join
-  join-tracked : (G H : State graphs N) → step-by graphs N (plan .fuel .0) (size / 32) (plan .birth) (plan .period) G ≡ ongoing H → Over w (plan .tau) ws ls (full g) G
-      → (v at kind : ℕ) → Returning w ws ls plan g v at kind → 8 ≤ kind → TracksState N lent n (placeAt ws) (rightAt ws) G
-      → (placeAt ws at ≤ count-ended n k) × (rightAt ws at ≤ count-ended n k)
-      × ((p r : ℕ → ℕ) → ((j : ℕ) → p j ≡ placeAt ws j) → ((j : ℕ) → r j ≡ rightAt ws j)
-      → TracksState N (lent-joined lent n k (placeAt ws at) (rightAt ws at)) (count-ended n k) p r H)
-  unfolding Over TracksState Placed step-by move controlOf slotOf promotable
-  join-tracked (state d S i x u) H e o v at kind q late tr =
+  -- the join: one that awaits its right
+  right-here : (S : Stack graphs N) → map-stack (span (plan .tau)) S ≡ stackOf ws (g .depth) → (v at kind : ℕ) → Returning w ws ls plan g v at kind → 8 ≤ kind
+      → (f m : Graph) × (T : Stack graphs N) × (S ≡ promoted-right f m (codeAt ws (32 * at)) (frameValue ws (32 * at)) ∷ T) × (length T ≡ at)
+  unfolding slotOf
+  right-here S o v at kind q late =
       let b = codeAt ws (32 * at) in
       let l = frameValue ws (32 * at) in
       let slot : slotAt ws (32 * at) ≡ promoted-right (frameBefore ws (32 * at)) (frameLeft ws (32 * at)) b l =
@@ -394,149 +412,168 @@ module _ (w ws ls : List ℕ) (size : ℕ) (plan : Plan) (g : Compact) (lent : L
       ∙ List·getD-eq-default (slots b l (frameArguments ws (32 * at)) (frameBefore ws (32 * at))) (promoted-right (frameBefore ws (32 * at)) (frameLeft ws (32 * at)) b l) late in
       let here : stackOf ws (g .depth) ≡ promoted-right (frameBefore ws (32 * at)) (frameLeft ws (32 * at)) b l ∷ stackOf ws at =
       ap (stackOf ws) (q .depth) ∙ sym (stack-more ws at) ∙ ap (λ (z : Slot ℕ Frame Code). z ∷ stackOf ws at) slot in
-      let top = top-right (span (plan .tau)) S _ _ _ _ _ (o .1 ∙ here) in
+      let top = top-right (span (plan .tau)) S _ _ _ _ _ (o ∙ here) in
+      (top .0, top .1, top .2, top .3, sym (length-map (span (plan .tau)) (top .2)) ∙ ap length (top .4) ∙ length-stack ws at)
+
+  join-placed : (G : State graphs N) → Over w (plan .tau) ws ls (full g) G → (v at kind : ℕ) → Returning w ws ls plan g v at kind → 8 ≤ kind
+      → TracksState N lent n (placeAt ws) (rightAt ws) G → (placeAt ws at ≤ count-ended n k) × (rightAt ws at ≤ count-ended n k)
+  unfolding Over TracksState Placed
+  join-placed (state d S i x u) o v at kind q late tr =
+      let top = right-here S (o .1) v at kind q late in
+      let T = top .2 in
+      let tracks = rw (top .3, o .2) at tr in
+      let w1 = rw (top .4) at (join-within tracks) in
+      let placed = tracks .placed in
+      let w0 : placeAt ws (length T) ≤ rightAt ws (length T) = omega (arith, placed .0, placed .1) in
+      let w2 : placeAt ws at ≤ rightAt ws at = rw (top .4) at w0 in
+      (omega arith, w1)
+
+  join-tracked : (G H : State graphs N) → step-by graphs N (plan .fuel .0) (size / 32) (plan .birth) (plan .period) G ≡ ongoing H → Over w (plan .tau) ws ls (full g) G
+      → (v at kind : ℕ) → Returning w ws ls plan g v at kind → 8 ≤ kind → TracksState N lent n (placeAt ws) (rightAt ws) G
+      → (p r : ℕ → ℕ) → ((j : ℕ) → p j ≡ placeAt ws j) → ((j : ℕ) → r j ≡ rightAt ws j)
+      → TracksState N (lent-joined lent n k (placeAt ws at) (rightAt ws at)) (count-ended n k) p r H
+  unfolding Over TracksState step-by move controlOf promotable
+  join-tracked (state d S i x u) H e o v at kind q late tr p r same also =
+      let top = right-here S (o .1) v at kind q late in
+      let b = codeAt ws (32 * at) in
+      let l = frameValue ws (32 * at) in
       let T = top .2 in
       let returns : d ≡ return v = o .0 ∙ rw (q .is) in
-      let deep : length T ≡ at = sym (length-map (span (plan .tau)) T) ∙ ap length (top .4) ∙ length-stack ws at in
+      let deep : length T ≡ at = top .4 in
       let moved = rw (returns, top .3, and-none (leb (plan .period) i)) at e in
       let to : after-join graphs N b l v (top .0) (top .1) T i x u ≡ H = cc in
       let tracks = rw (top .3, o .2) at tr in
-      let w1 = rw deep at (join-within tracks) in
-      let placed = tracks .placed in
-      let w0 : placeAt ws (length T) ≤ rightAt ws (length T) = omega (arith, placed .0, placed .1) in
-      let w2 : placeAt ws at ≤ rightAt ws at = rw deep at w0 in (
-        omega arith,
-        w1,
-        λ p r same also. subst (TracksState N (lent-joined lent n k (placeAt ws at) (rightAt ws at)) (count-ended n k) p r) to
-            (tracks-places (rw deep at (tracks-join tracks)) p r (λ j y. same j) (λ j y. also j)),
-      )
+      subst (TracksState N (lent-joined lent n k (placeAt ws at) (rightAt ws at)) (count-ended n k) p r) to
+      (tracks-places (rw deep at (tracks-join tracks)) p r (λ j y. same j) (λ j y. also j))
 
--- THE INVARIANT AFTER A FREE MOVE, and what writing it asks for
+tracks-as : (M : FrameMachine) {lent lent′ : List ℕ} (n n′ : ℕ) → lent′ ≡ lent → n′ ≡ n → (p r : ℕ → ℕ) (H : State graphs M) → TracksState M lent n p r H → TracksState M lent′ n′ p r H
+tracks-as M n n′ a b p r H i = rw (a, b) i
+
+-- WHAT THE WORDS OF A FREE MOVE ASK FOR
 module _ {w arguments : List ℕ} {size : ℕ} {plan : Plan} {ws ls : List ℕ} {g : Compact} {lent : List ℕ} {n : ℕ}
-    (r : Running w arguments size plan ws ls g) (t : Tracking w arguments size plan ws ls g lent n) {ws′ ls′ : List ℕ} {o : Progress}
-    (st : Strides w ws ls plan g ws′ ls′ o) (next : Compact) (event : Event) (e : o ≡ progress.Free next event) (f : stepOf o ≡ Go (full next)) where
+    (r : Running w arguments size plan ws ls g) (t : Tracking w arguments size plan ws ls g lent n) where
+  roomy : 32 * g .depth ≤ length ws
+  roomy = r .starts .ready .kept .room
+
+  oldest-room : (leb (plan .period) (full g .credits .0) && ltb (g .oldest) (g .depth)) ≡ true → 32 * g .oldest + 32 ≤ length ws
+  oldest-room due = omega (arith, roomy, ltb-true (g .oldest) (g .depth) (and-right (leb (plan .period) (full g .credits .0)) (ltb (g .oldest) (g .depth)) due))
+
+  framed-of : (p : Pause) → Awaits w ws ls plan g p → (p ≡ pause.Limit → ⊥) → Fits ws g p → 0 < length lent → Framed ws n (full g .credits .0) (eventOf g p)
+  unfolding Awaits Framed Fits eventOf
+  framed-of pause.Limit a not fits h = absurd (not refl)
+  framed-of pause.Promotion a not fits h = oldest-room a
+  framed-of (pause.Fork seat) a not fits h = omega arith
+  framed-of (pause.Turn v top) a not fits h =
+      (omega (arith, roomy, a .depth), turn-placed w ws ls size plan g lent n (r .starts) (t .at) (t .over) v top a (t .tracks h))
+  framed-of (pause.Join v top kind) a not fits h =
+      let x = join-placed w ws ls size plan g lent n (r .starts) (t .at) (t .over) v top kind (a .0) (a .1) (t .tracks h) in
+      let small = small-end r t h in
+      let few = counted-few n (full g .credits .0) in
+      (omega (arith, roomy, a .0 .depth), omega (arith, x .0, small .words), x .1)
+
+  pub free-markable : (p : Pause) → Awaits w ws ls plan g p → (p ≡ pause.Limit → ⊥) → Fits ws g p → 0 < length lent → Markable ws n (full g .credits .0) (eventOf g p)
+  free-markable p a not fits h = record { small = small-end r t h; framed = framed-of p a not fits h }
+
+-- THE INVARIANTS AFTER A FREE MOVE: the words are marked, and the move is made on them
+module _ {w arguments : List ℕ} {size : ℕ} {plan : Plan} {ws ls : List ℕ} {g : Compact} {lent : List ℕ} {n : ℕ}
+    (r : Running w arguments size plan ws ls g) (t : Tracking w arguments size plan ws ls g lent n) {event : Event} {ws₁ lent′ : List ℕ} {n′ : ℕ}
+    (x : Marked ws lent n (full g .credits .0) event ws₁ lent′ n′) {ws′ ls′ : List ℕ} {o : Progress} (f : Frees w ws₁ ls plan g event ws′ ls′ o)
+    (long : length ws′ ≡ length ws) where
   abbrev kk : ℕ
   kk = full g .credits .0
 
-  abbrev a : Advanced w ws ls plan (full g) ws′ ls′ (stepOf o)
-  a = st .single next event e
+  abbrev next : Compact
+  next = f .next
 
-  abbrev one : Many w ws ls plan (full g) ws′ ls′ (full next)
-  one = one-many r a (full next) f
+  abbrev table : WellFormed w
+  table = r .starts .ready .kept .table
+
+  same-stack : stackOf ws (g .depth) ≡ stackOf ws₁ (g .depth)
+  same-stack = ready-alike w ws ws₁ table (marked-alike x .0) (marked-alike x .1) ls plan (full g) (r .starts .ready) .0
+
+  -- on the words that are marked, beside no buffer
+  abbrev r₁ : Running w arguments size plan ws₁ ls g
+  r₁ = running-alike r ws₁ (marked-alike x .0) (marked-alike x .1)
+
+  abbrev t₁ : Tracking w arguments size plan ws₁ ls g [] 0
+  t₁ = replaced t ws₁ same-stack [] 0 (λ h. absurd (omega arith))
+
+  abbrev step₁ : Many w ws₁ ls plan (full g) ws′ ls′ (full next)
+  step₁ = one-many (f .advanced) (full next) refl
 
   abbrev H : State graphs (language w)
-  H = reached r t next one .0
+  H = reached r₁ t₁ next step₁ .0
 
   stepped : step-by graphs (language w) (plan .fuel .0) (size / 32) (plan .birth) (plan .period) (t .at) ≡ ongoing H
-  unfolding one-many
+  unfolding one-many replaced
   stepped =
-      let x = first-step graphs (language w) (plan .fuel .0) (size / 32) (plan .birth) (plan .period) 0 (t .at) H (reached r t next one .1) in
-      x .1 ∙ ap ongoing (no-steps graphs (language w) (plan .fuel .0) (size / 32) (plan .birth) (plan .period) (x .0) H (x .2))
-
-  occurs : Occurs w ws ls plan g next event
-  unfolding Marks
-  occurs = rw e at (st .marks)
+      let y = first-step graphs (language w) (plan .fuel .0) (size / 32) (plan .birth) (plan .period) 0 (t .at) H (reached r₁ t₁ next step₁ .1) in
+      y .1 ∙ ap ongoing (no-steps graphs (language w) (plan .fuel .0) (size / 32) (plan .birth) (plan .period) (y .0) H (y .2))
 
   viewed : StepBy graphs (language w) (plan .fuel .0) (size / 32) (plan .birth) (plan .period) (t .at) H
   viewed = step-by-view graphs (language w) (plan .fuel .0) (size / 32) (plan .birth) (plan .period) (t .at) H stepped
 
   forks-so : next .forks ≡ g .forks + 1 → forked H ≡ g .forks + 1
-  forks-so h = over-forks w (plan .tau) ws′ ls′ (full next) H (reached r t next one .2) ∙ h
+  forks-so h = over-forks w (plan .tau) ws′ ls′ (full next) H (reached r₁ t₁ next step₁ .2) ∙ h
 
-  deeper-so : (b : StepBy graphs (language w) (plan .fuel .0) (size / 32) (plan .birth) (plan .period) (t .at) H) → (leb (plan .period) kk && ltb (g .oldest) (g .depth)) ≡ false
-      → next .forks ≡ g .forks + 1 → next .depth ≡ g .depth + 1
-  deeper-so b not h =
-      sym (over-depth w (plan .tau) ws′ ls′ (full next) H (reached r t next one .2))
-      ∙ born-deep w ws ls size plan g lent n (r .starts) b (t .over) not (forks-so h)
+  deeper-so : (leb (plan .period) kk && ltb (g .oldest) (g .depth)) ≡ false → next .forks ≡ g .forks + 1 → next .depth ≡ g .depth + 1
+  deeper-so not h =
+      sym (over-depth w (plan .tau) ws′ ls′ (full next) H (reached r₁ t₁ next step₁ .2))
+      ∙ born-deep w ws ls size plan g lent n (r .starts) viewed (t .over) not (forks-so h)
 
-  module _ (long : length ws′ ≡ length ws) where
-    same-places : Spared ws ws′
-    same-places = a .spared
+  -- the places after the move are those of the mark
+  same-places : Spared ws₁ ws′
+  same-places = f .advanced .spared
 
-    roomy : 32 * g .depth ≤ length ws′
-    roomy = omega (arith, r .starts .ready .kept .room)
+  -- what returns to a frame of the marked words returned to it before
+  returned : {v at kind : ℕ} → Returning w ws₁ ls plan g v at kind → Returning w ws ls plan g v at kind
+  returned {v} {at} q = record {
+    calm = record { starts = r .starts; not-due = q .calm .not-due };
+    is = q .is;
+    depth = q .depth;
+    of-kind = kind-alike w ws ws₁ table (marked-alike x .0) (marked-alike x .1) at ∙ q .of-kind;
+  }
 
-    framed-of : (ev : Event) → Occurs w ws ls plan g next ev → 0 < length lent → Framed ws′ n kk ev
-    unfolding Occurs Framed
-    framed-of (Fork at) (promoted due i) h =
-        omega (arith, roomy, ltb-true (g .oldest) (g .depth) (and-right (leb (plan .period) kk) (ltb (g .oldest) (g .depth)) due))
-    framed-of (Fork at) (born c b x i) h = omega (arith, deeper-so viewed (c .not-due) x, one .kept .room)
-    framed-of (Turn at) q h =
-        let x = turn-tracked w ws ls size plan g lent n (r .starts) (t .at) H stepped (t .over) (q .0) at (q .1) (t .tracks h) in
-        (omega (arith, roomy, q .1 .depth), omega (arith, x .0, same-places at .0))
-    framed-of (Join at) q h =
-        let x = join-tracked w ws ls size plan g lent n (r .starts) (t .at) H stepped (t .over) (q .0) at (q .1) (q .2) (q .3) (t .tracks h) in
-        let small = small-end r t h in
-        let few = counted-few n kk in
-        (omega (arith, roomy, q .2 .depth), omega (arith, x .0, same-places at .0, small .words), omega (arith, x .1, same-places at .1))
+  -- what the buffer tracks after it
+  tracked-by : (ev : Event) → Occurs w ws₁ ls plan g next ev → ws₁ ≡ placesMarked ws n kk ev → 0 < length lent
+      → TracksState (language w) (graphMarked ws lent n kk ev) (countMarked n kk ev) (placeAt ws′) (rightAt ws′) H
+  unfolding Occurs graphMarked countMarked placesMarked
+  tracked-by (Fork at) (promoted due i) e h =
+      let v = count-ended n kk in
+      let place : (j : ℕ) → placeAt ws′ j ≡ placeAt (placed ws (32 * at) v) j = λ j. same-places j .0 ∙ ap (λ (z : List ℕ). placeAt z j) e in
+      let right : (j : ℕ) → rightAt ws′ j ≡ rightAt (placed ws (32 * at) v) j = λ j. same-places j .1 ∙ ap (λ (z : List ℕ). rightAt z j) e in
+      let room : 32 * at + 32 ≤ length ws = rw i (oldest-room r t due) in
+      promotion-tracked w ws ls size plan g lent n (r .starts) viewed (t .over) due (placeAt ws′) (rightAt ws′)
+      (rw (← i) (place at ∙ place-kept ws at v room)) (λ j z. place j ∙ place-other ws at v j (λ y. z (y ∙ i))) (λ j. right j ∙ place-right ws at v j) (t .tracks h)
+  tracked-by (Fork at) (born c b y i) e h =
+      let v = count-ended n kk in
+      let place : (j : ℕ) → placeAt ws′ j ≡ placeAt (placed ws (32 * at) v) j = λ j. same-places j .0 ∙ ap (λ (z : List ℕ). placeAt z j) e in
+      let right : (j : ℕ) → rightAt ws′ j ≡ rightAt (placed ws (32 * at) v) j = λ j. same-places j .1 ∙ ap (λ (z : List ℕ). rightAt z j) e in
+      let room : 32 * at + 32 ≤ length ws = omega (arith, deeper-so (c .not-due) y, step₁ .kept .room) in
+      born-tracked w ws ls size plan g lent n (r .starts) viewed (t .over) (c .not-due) (forks-so y) (placeAt ws′) (rightAt ws′)
+      (rw (← i) (place at ∙ place-kept ws at v room)) (λ j z. place j ∙ place-other ws at v j (λ y. z (y ∙ i))) (λ j. right j ∙ place-right ws at v j) (t .tracks h)
+  tracked-by (Turn at) q e h =
+      let v = count-ended n kk in
+      let place : (j : ℕ) → placeAt ws′ j ≡ placeAt (rightPlaced ws (32 * at) v) j = λ j. same-places j .0 ∙ ap (λ (z : List ℕ). placeAt z j) e in
+      let right : (j : ℕ) → rightAt ws′ j ≡ rightAt (rightPlaced ws (32 * at) v) j = λ j. same-places j .1 ∙ ap (λ (z : List ℕ). rightAt z j) e in
+      let room : 32 * at + 32 ≤ length ws = omega (arith, roomy r t, q .1 .depth) in
+      turn-tracked w ws ls size plan g lent n (r .starts) (t .at) H stepped (t .over) (q .0) at (returned (q .1)) (t .tracks h) (placeAt ws′) (rightAt ws′)
+      (λ j. place j ∙ right-place ws at v j) (right at ∙ right-kept ws at v room) (λ j z. right j ∙ right-other ws at v j z)
+  tracked-by (Join at) q e h =
+      join-tracked w ws ls size plan g lent n (r .starts) (t .at) H stepped (t .over) (q .0) at (q .1) (returned (q .2)) (q .3) (t .tracks h) (placeAt ws′) (rightAt ws′)
+      (λ j. same-places j .0 ∙ ap (λ (z : List ℕ). placeAt z j) e) (λ j. same-places j .1 ∙ ap (λ (z : List ℕ). rightAt z j) e)
 
-    pub markable : 0 < length lent → Markable ws′ n kk event
-    markable h = record { small = small-end r t h; framed = framed-of event occurs h }
+  tracked : 0 < length lent′ → Dec (0 < length lent) → TracksState (language w) lent′ n′ (placeAt ws′) (rightAt ws′) H
+  tracked h (yes l) = let y = x .some l in tracks-as (language w) _ _ (y .1) (y .2) (placeAt ws′) (rightAt ws′) H (tracked-by event (f .occurs) (y .0) l)
+  tracked h (no l) = let y = x .none (omega arith) in absurd (omega (arith, ap length (y .1)))
 
-    -- what the buffer tracks after it
-    tracked-by : (ev : Event) → Occurs w ws ls plan g next ev → 0 < length lent
-        → TracksState (language w) (graphMarked ws′ lent n kk ev) (countMarked n kk ev) (placeAt (placesMarked ws′ n kk ev)) (rightAt (placesMarked ws′ n kk ev)) H
-    unfolding Occurs Framed graphMarked countMarked placesMarked
-    tracked-by (Fork at) (promoted due i) h =
-        let v = count-ended n kk in
-        promotion-tracked w ws ls size plan g lent n (r .starts) viewed (t .over) due (placeAt (placed ws′ (32 * at) v)) (rightAt (placed ws′ (32 * at) v))
-        (rw (← i) (place-kept ws′ at v (framed-of (Fork at) (promoted due i) h))) (λ j z. place-other ws′ at v j (λ y. z (y ∙ i)) ∙ same-places j .0)
-        (λ j. place-right ws′ at v j ∙ same-places j .1) (t .tracks h)
-    tracked-by (Fork at) (born c b x i) h =
-        let v = count-ended n kk in
-        born-tracked w ws ls size plan g lent n (r .starts) viewed (t .over) (c .not-due) (forks-so x) (placeAt (placed ws′ (32 * at) v)) (rightAt (placed ws′ (32 * at) v))
-        (rw (← i) (place-kept ws′ at v (framed-of (Fork at) (born c b x i) h))) (λ j z. place-other ws′ at v j (λ y. z (y ∙ i)) ∙ same-places j .0)
-        (λ j. place-right ws′ at v j ∙ same-places j .1) (t .tracks h)
-    tracked-by (Turn at) q h =
-        let v = count-ended n kk in
-        let x = turn-tracked w ws ls size plan g lent n (r .starts) (t .at) H stepped (t .over) (q .0) at (q .1) (t .tracks h) in
-        rw (same-places at .0) (x .1 (placeAt (rightPlaced ws′ (32 * at) v)) (rightAt (rightPlaced ws′ (32 * at) v)) (λ j. right-place ws′ at v j ∙ same-places j .0)
-        (right-kept ws′ at v (framed-of (Turn at) q h .0)) (λ j z. right-other ws′ at v j z ∙ same-places j .1))
-    tracked-by (Join at) q h =
-        let x = join-tracked w ws ls size plan g lent n (r .starts) (t .at) H stepped (t .over) (q .0) at (q .1) (q .2) (q .3) (t .tracks h) in
-        rw (same-places at .0, same-places at .1) (x .2 (placeAt ws′) (rightAt ws′) (λ j. same-places j .0) (λ j. same-places j .1))
-
-    module _ {ws″ lent′ : List ℕ} {n′ : ℕ} (x : Marked ws′ lent n kk event ws″ lent′ n′) where
-      -- the words are alike but for places
-      pub marked-alike : (length ws″ ≡ length ws′) × Alike ws′ ws″
-      marked-alike = on (decLt 0 (length lent))
-        where
-          by : (ev : Event) → (length (placesMarked ws′ n kk ev) ≡ length ws′) × Alike ws′ (placesMarked ws′ n kk ev)
-          by (Fork at) = unfold placesMarked in (length-set ws′ (32 * at + 27) (count-ended n kk), alike-placed ws′ at (count-ended n kk))
-          by (Turn at) = unfold placesMarked in (length-set ws′ (32 * at + 28) (count-ended n kk), alike-right ws′ at (count-ended n kk))
-          by (Join at) = unfold placesMarked in (refl, λ j i y z. refl)
-
-          on : Dec (0 < length lent) → (length ws″ ≡ length ws′) × Alike ws′ ws″
-          on (yes h) = rw (x .some h .0) (by event)
-          on (no h) = rw (x .none (omega arith) .0) (refl, λ j i y z. refl)
-
-      pub tracking-free : stackOf ws′ (next .depth) ≡ stackOf ws″ (next .depth) → Tracking w arguments size plan ws″ ls′ next lent′ n′
-      unfolding onwards
-      tracking-free same =
-          let base = onwards r t next one [] 0 (λ h. absurd (omega arith)) in
-          replaced base ws″ same lent′ n′ (λ h. tracked h (decLt 0 (length lent)))
-        where
-          tracked : 0 < length lent′ → Dec (0 < length lent) → TracksState (language w) lent′ n′ (placeAt ws″) (rightAt ws″) H
-          tracked h (yes l) = let y = x .some l in rw (y .0, y .1, y .2) (tracked-by event occurs l)
-          tracked h (no l) = let y = x .none (omega arith) in absurd (omega (arith, ap length (y .1)))
-
--- all of it together, as the loop has it
-module _ {w arguments : List ℕ} {size : ℕ} {plan : Plan} {ws ls : List ℕ} {g : Compact} {lent : List ℕ} {n : ℕ}
-    (r : Running w arguments size plan ws ls g) (t : Tracking w arguments size plan ws ls g lent n) {ws′ ls′ : List ℕ} {o : Progress}
-    (st : Strides w ws ls plan g ws′ ls′ o) (next : Compact) (event : Event) (e : o ≡ progress.Free next event) (long : length ws′ ≡ length ws) where
-  goes : (stepOf o ≡ Go (full next)) × Paced plan next
-  goes = goes-free e (st .paced)
-
-  pub free-markable : 0 < length lent → Markable ws′ n (full g .credits .0) event
-  free-markable = markable r t st next event e (goes .0) long
-
-  pub free-next : {ws″ lent′ : List ℕ} {n′ : ℕ} → Marked ws′ lent n (full g .credits .0) event ws″ lent′ n′
-      → Running w arguments size plan ws″ ls′ next × (to-go w size plan ws″ ls′ (full next) < to-go w size plan ws ls (full g)) × Tracking w arguments size plan ws″ ls′ next lent′ n′
-  free-next {ws″} x =
-      let r₁ = running-next r st next (goes .0) (goes .1) long in
-      let alike = marked-alike r t st next event e (goes .0) long x in
-      let same = ready-alike w ws′ ws″ (r₁ .starts .ready .kept .table) (alike .0) (alike .1) ls′ plan (full next) (r₁ .starts .ready) .0 in
-      (running-alike r₁ ws″ (alike .0) (alike .1), rw (← same) (running-less r st next (goes .0)), tracking-free r t st next event e (goes .0) long x same)
+  pub free-next : Running w arguments size plan ws′ ls′ next × (to-go w size plan ws′ ls′ (full next) < to-go w size plan ws ls (full g)) × Tracking w arguments size plan ws′ ls′ next lent′ n′
+  free-next =
+      let l : length ws′ ≡ length ws₁ = long ∙ sym (marked-alike x .0) in (
+        running-next r₁ (one (f .advanced)) next refl (f .paced) l,
+        rw same-stack (running-less r₁ (one (f .advanced)) next refl),
+        onwards r₁ t₁ next step₁ lent′ n′ (λ h. tracked h (decLt 0 (length lent))),
+      )
 
 -- THE VALUE: a step that ends in one has no frame left, and the words are its graph's
 module _ (M : FrameMachine) (fuel cap : ℕ) (born : Bool) (N : ℕ) (lent : List ℕ) (n : ℕ) (p r : ℕ → ℕ) (v : ℕ) (h : Graph) (u : RunCounts) where
@@ -561,19 +598,19 @@ module _ (M : FrameMachine) (fuel cap : ℕ) (born : Bool) (N : ℕ) (lent : Lis
 -- THE END: the run over graphs ends with the last step of the words
 module _ {w arguments : List ℕ} {size : ℕ} {plan : Plan} {ws ls : List ℕ} {g : Compact} {lent : List ℕ} {n : ℕ}
     (r : Running w arguments size plan ws ls g) (t : Tracking w arguments size plan ws ls g lent n) {ws′ ls′ : List ℕ} {o : Progress}
-    (st : Strides w ws ls plan g ws′ ls′ o) (stays : (next : Registers) → stepOf o ≡ Go next → ⊥) where
+    (st : Strides w ws ls plan g ws′ ls′ o) (stays : Stays o) where
   abbrev by : State graphs (language w) → Result graphs (language w)
   by = step-by graphs (language w) (plan .fuel .0) (size / 32) (plan .birth) (plan .period)
 
   no-more : (x : State graphs (language w)) → by (t .at) ≡ ongoing x → ⊥
   no-more x e =
       let carried = step-by-map graphs (spans (plan .tau)) (language w) (span (plan .tau)) (span-carried (plan .tau)) (plan .fuel .0) (size / 32) (plan .birth) (plan .period) (t .at) in
-      let last = ap (step-by (spans (plan .tau)) (language w) (plan .fuel .0) (size / 32) (plan .birth) (plan .period)) (over-is w (plan .tau) ws ls (full g) (t .at) (t .over)) ∙ last-step r st stays in
+      let last = ap (step-by (spans (plan .tau)) (language w) (plan .fuel .0) (size / 32) (plan .birth) (plan .period)) (over-is w (plan .tau) ws ls (full g) (t .at) (t .over)) ∙ last-step r (st .strode) (no-further st stays) in
       on (stepOf o) refl (sym last ∙ carried ∙ ap (map-outcome (span (plan .tau)) (map-state graphs (spans (plan .tau)) (language w) (span (plan .tau)))) e)
     where
       on : (q : Step) → stepOf o ≡ q
           → resultOf w (plan .tau) ws′ ls′ (full g) q ≡ map-outcome (span (plan .tau)) (map-state graphs (spans (plan .tau)) (language w) (span (plan .tau))) (ongoing x) → ⊥
-      on (Go next) i e = stays next i
+      on (Go next) i e = no-further st stays next i
       on (Value v) i e = unfold resultOf map-outcome in let no : _≡_ {A = ℕ} 0 1 = cc in omega arith
       on (Halt h) i e = unfold resultOf map-outcome in let no : _≡_ {A = ℕ} 0 1 = cc in omega arith
 

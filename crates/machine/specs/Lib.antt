@@ -3,4 +3,5 @@
 pub mod Workspace
 pub mod Runs
 pub mod Written
+pub mod Loop
 pub mod AllThree

@@ -1,6 +1,6 @@
 // The three machines of document 01, in a lent workspace, for any input.
 //
-// `sequential`, `parallel` and `heartbeat` check their input and then run it, by one loop over `strides::stride`; `all_three` calls all of
+// `sequential`, `parallel` and `heartbeat` check their input and then run it, by one loop of strides and free moves; `all_three` calls all of
 // them, and promises demand 3 of their answers. What they answer is defined in crate `language` (specs/Answers.antt), and what they leave
 // in the workspace in specs/Workspace.antt.
 //
@@ -9,7 +9,10 @@
 // is the same run with an empty one, and 25 is not looked at.
 
 use compact::Compact;
+use compact::Event;
+use compact::Pause;
 use compact::Progress;
+use frames::Seat;
 use graph_answers::Graphed;
 use language::Answer;
 use language::Counts;
@@ -23,18 +26,20 @@ use schedule::Span;
 use schedule::Work;
 use table::Reading;
 ghost use mathlib.Core.Path.{_≡_};
-ghost use Prim.Native.Nat.{_+_, _*_, _≤_, _<_, _^_};
+ghost use Prim.Native.Nat.{_+_, _*_, _/_, _≤_, _<_, _^_};
 ghost use lib.ListN.{length, take};
 ghost use Rattle.table.specs.Read.{startsOf};
 ghost use Rattle.language.specs.Answers.{countsOf, stopped, sequentialOf, parallelOf, heartbeatOf};
 ghost use Rattle.language.specs.Stops.{StopListed};
 ghost use Rattle.compact.specs.Compact.{full, stepOf, compactOf};
+ghost use Rattle.strides.specs.Strides.{Starts, Awaits};
 ghost use Rattle.marks.specs.Marks.{Small};
 ghost use Rattle.machine.specs.Workspace.{leftBy};
 ghost use Rattle.schedule.specs.Machine.{Schedule};
 ghost use Rattle.graph_answers.specs.Fitted.{fittedOf};
 ghost use Rattle.graph_answers.specs.Answers.{graphedOf, graphLeft};
 ghost use Rattle.machine.specs.Runs.{begun, toldAt, Countable, Accepted, Begins, Ran, Tells};
+ghost use Rattle.machine.specs.Loop.{Onward, Resolved, eventOf, Fits, MarkableAt, Moves};
 ghost use Rattle.machine.specs.Written.{Finished, Wrote, Lends, clearedBy, StopToldLent};
 ghost use Rattle.machine.specs.AllThree.{AllThree, AllThreeGraphs};
 
@@ -53,6 +58,18 @@ pub struct GraphedAnswers {
     pub sequential: Graphed,
     pub parallel: Graphed,
     pub heartbeat: Graphed,
+}
+
+// Where strides come to no more: the registers then, and the step that is none.
+struct Reached {
+    registers: Compact,
+    step: Progress,
+}
+
+// A free move with the number of words after it, or what ends the run.
+struct Moved {
+    step: Progress,
+    words: usize,
 }
 
 // The registers at a run's start, with so many arguments.
@@ -102,9 +119,9 @@ fn stop(number: u32, function: usize, node: usize, transitions: u64, deepest: us
     })
 }
 
-// The answer where a run ends: its value with the counts, or its stop with the transitions made and the depth reached.
+// The answer where a run ends, which is at no pause: its value with the counts, or its stop with the transitions made and the depth reached.
 fn tell(plan: Plan, s: Registers, step: Progress) -> Answer
-    requires { ⌜ Countable plan s ⌝ }
+    requires { ⌜ (Countable plan s) × ((pause : Pause) → step ≡ Progress.Paused pause → ⊥) ⌝ }
     ensures { λ r. ⌜ r ≡ toldAt (plan .tau) s (stepOf step) ⌝ }
 {
     match step {
@@ -112,17 +129,178 @@ fn tell(plan: Plan, s: Registers, step: Progress) -> Answer
         Progress::Halt(h) => stop(h.number, h.function, h.node, s.transitions, s.deepest),
         Progress::Go(_) => stop(0, 0, 0, 0, 0),
         Progress::Free(_, _) => stop(0, 0, 0, 0, 0),
+        Progress::Paused(_) => stop(0, 0, 0, 0, 0),
     }
 }
 
 // Where a run ends: its answer, and the number of words that its graph needs.
 fn finish(graph: &mut [u32], plan: Plan, g: Compact, n: usize, step: Progress) -> Graphed
-    requires { ⌜ (g .since ≤ g .transitions) × (full g .span .0 < 2 ^ 60) × (Countable plan (full g)) × (0 < length (now graph) → Small n (full g .credits .0)) ⌝ }
+    requires { ⌜ (g .since ≤ g .transitions) × (full g .span .0 < 2 ^ 60) × (Countable plan (full g)) × (0 < length (now graph) → Small n (full g .credits .0)) × ((pause : Pause) → step ≡ Progress.Paused pause → ⊥) ⌝ }
     ensures { λ r. ⌜ (r .answer ≡ toldAt (plan .tau) (full g) (stepOf step)) × (Finished (now (graph .entry)) n (full g .credits .0) (r .words) (now (graph .exit))) ⌝ }
 {
     let answer = tell(plan, compact::expand(g), step);
     let words = marks::finish(graph, n, g.transitions - g.since);
     Graphed { answer, words }
+}
+
+// Strides, until one makes no transition: the run ends there, or a pause is made.
+fn onward(
+    words: &[u32],
+    starts: &[usize],
+    ws: &mut [u64],
+    locals: &mut [u64],
+    plan: Plan,
+    from: Compact,
+) -> Reached
+    requires { ⌜ (Starts (now words) (now ws) (now locals) plan from) × (now starts ≡ startsOf (now words)) ⌝ }
+    ensures { λ r. ⌜ Onward (now (words .entry)) (now (ws .entry)) (now (locals .entry)) plan from (now (ws .exit)) (now (locals .exit)) r ⌝ }
+{
+    let mut g = from;
+    loop {
+        let step = strides::stride(words, starts, ws, locals, plan, g);
+        let Progress::Go(next) = step else {
+            return Reached { registers: g, step };
+        };
+        g = next;
+    }
+}
+
+// A promotion, with its words of the graph before it; so in the moves below. n is the number of words so far.
+fn promoted(
+    words: &[u32],
+    ws: &mut [u64],
+    locals: &[u64],
+    graph: &mut [u32],
+    plan: Plan,
+    g: Compact,
+    n: usize,
+) -> Moved
+    requires { ⌜ (Starts (now words) (now ws) (now locals) plan g) × (Awaits (now words) (now ws) (now locals) plan g Pause.Promotion) × (MarkableAt (now ws) (now graph) g n (Event.Fork (g .oldest))) ⌝ }
+    ensures { λ r. ⌜ Moves (now (words .entry)) (now (ws .entry)) (now (locals .entry)) (now (graph .entry)) plan g n (Event.Fork (g .oldest)) (now (ws .exit)) (now (locals .entry)) (now (graph .exit)) r ⌝ }
+{
+    let more = marks::begin(ws, graph, n, g.transitions - g.since, g.oldest);
+    let step = strides::promote(words, ws, locals, plan, g);
+    Moved { step, words: more }
+}
+
+// A fork promoted at its birth, in a free frame; where there is none the run ends.
+fn forked(
+    words: &[u32],
+    ws: &mut [u64],
+    locals: &[u64],
+    graph: &mut [u32],
+    plan: Plan,
+    g: Compact,
+    n: usize,
+    seat: Seat,
+) -> Moved
+    requires { ⌜ (Starts (now words) (now ws) (now locals) plan g) × (Awaits (now words) (now ws) (now locals) plan g (Pause.Fork seat)) × (g .depth < length (now ws) / 32 → MarkableAt (now ws) (now graph) g n (Event.Fork (g .depth))) ⌝ }
+    ensures { λ r. ⌜ Moves (now (words .entry)) (now (ws .entry)) (now (locals .entry)) (now (graph .entry)) plan g n (Event.Fork (g .depth)) (now (ws .exit)) (now (locals .entry)) (now (graph .exit)) r ⌝ }
+{
+    if g.depth < ws.len() / frames::WORDS {
+        let more = marks::begin(ws, graph, n, g.transitions - g.since, g.depth);
+        let step = strides::fork(words, ws, locals, plan, g, seat);
+        Moved { step, words: more }
+    } else {
+        Moved {
+            step: strides::crowded(words, ws, locals, plan, g, seat),
+            words: n,
+        }
+    }
+}
+
+// A left value's arrival at a promoted fork.
+fn turned(
+    words: &[u32],
+    starts: &[usize],
+    ws: &mut [u64],
+    locals: &mut [u64],
+    graph: &mut [u32],
+    plan: Plan,
+    g: Compact,
+    n: usize,
+    v: u64,
+    top: usize,
+) -> Moved
+    requires { ⌜ (Starts (now words) (now ws) (now locals) plan g) × (Awaits (now words) (now ws) (now locals) plan g (Pause.Turn v top)) × (now starts ≡ startsOf (now words)) × (MarkableAt (now ws) (now graph) g n (Event.Turn top)) ⌝ }
+    ensures { λ r. ⌜ Moves (now (words .entry)) (now (ws .entry)) (now (locals .entry)) (now (graph .entry)) plan g n (Event.Turn top) (now (ws .exit)) (now (locals .exit)) (now (graph .exit)) r ⌝ }
+{
+    let more = marks::turn(ws, graph, n, g.transitions - g.since, top);
+    let step = strides::turn(words, starts, ws, locals, plan, g, v, top);
+    Moved { step, words: more }
+}
+
+// A right value's arrival there.
+fn joined(
+    words: &[u32],
+    starts: &[usize],
+    ws: &mut [u64],
+    locals: &mut [u64],
+    graph: &mut [u32],
+    plan: Plan,
+    g: Compact,
+    n: usize,
+    v: u64,
+    top: usize,
+    kind: u64,
+) -> Moved
+    requires { ⌜ (Starts (now words) (now ws) (now locals) plan g) × (Awaits (now words) (now ws) (now locals) plan g (Pause.Join v top kind)) × (now starts ≡ startsOf (now words)) × (MarkableAt (now ws) (now graph) g n (Event.Join top)) ⌝ }
+    ensures { λ r. ⌜ Moves (now (words .entry)) (now (ws .entry)) (now (locals .entry)) (now (graph .entry)) plan g n (Event.Join top) (now (ws .exit)) (now (locals .exit)) (now (graph .exit)) r ⌝ }
+{
+    let more = marks::join(ws, graph, n, g.transitions - g.since, top);
+    let step = strides::join(words, starts, ws, locals, plan, g, v, top, kind);
+    Moved { step, words: more }
+}
+
+// The free move that a pause awaits.
+fn free(
+    words: &[u32],
+    starts: &[usize],
+    ws: &mut [u64],
+    locals: &mut [u64],
+    graph: &mut [u32],
+    plan: Plan,
+    g: Compact,
+    n: usize,
+    pause: Pause,
+) -> Moved
+    requires { ⌜ (Starts (now words) (now ws) (now locals) plan g) × (Awaits (now words) (now ws) (now locals) plan g pause) × (pause ≡ Pause.Limit → ⊥) × (now starts ≡ startsOf (now words)) × (Fits (now ws) g pause → MarkableAt (now ws) (now graph) g n (eventOf g pause)) ⌝ }
+    ensures { λ r. ⌜ Moves (now (words .entry)) (now (ws .entry)) (now (locals .entry)) (now (graph .entry)) plan g n (eventOf g pause) (now (ws .exit)) (now (locals .exit)) (now (graph .exit)) r ⌝ }
+{
+    match pause {
+        Pause::Promotion => promoted(words, ws, locals, graph, plan, g, n),
+        Pause::Fork(seat) => forked(words, ws, locals, graph, plan, g, n, seat),
+        Pause::Turn(v, top) => turned(words, starts, ws, locals, graph, plan, g, n, v, top),
+        Pause::Join(v, top, kind) => {
+            joined(words, starts, ws, locals, graph, plan, g, n, v, top, kind)
+        }
+        Pause::Limit => Moved {
+            step: Progress::Paused(pause),
+            words: n,
+        },
+    }
+}
+
+// A step by strides, and at the limit what comes then.
+fn resolved(
+    words: &[u32],
+    starts: &[usize],
+    ws: &[u64],
+    locals: &[u64],
+    plan: Plan,
+    g: Compact,
+    step: Progress,
+) -> Progress
+    requires { ⌜ (step ≡ Progress.Paused Pause.Limit → (Starts (now words) (now ws) (now locals) plan g) × (g .limit ≤ g .transitions)) × (now starts ≡ startsOf (now words)) ⌝ }
+    ensures { λ r. ⌜ Resolved (now (words .entry)) (now (ws .entry)) (now (locals .entry)) plan g step r ⌝ }
+{
+    let Progress::Paused(pause) = step else {
+        return step;
+    };
+    let Pause::Limit = pause else {
+        return step;
+    };
+    strides::at_limit(words, starts, ws, locals, plan, g)
 }
 
 // Moves from a run's start to its end. n is the number of words of its graph so far.
@@ -138,22 +316,23 @@ fn drive(
     requires { ⌜ (Begins (now words) (now ws) (now locals) plan count) × (now starts ≡ startsOf (now words)) ⌝ }
     ensures { λ r. ⌜ (Ran (now (words .entry)) (take count (now (locals .entry))) (length (now (ws .entry))) plan (r .answer)) × (Wrote (now (words .entry)) (take count (now (locals .entry))) (length (now (ws .entry))) plan (now (graph .entry)) (r .words) (now (graph .exit))) ⌝ }
 {
-    let mut g = begin(plan, count);
+    let mut from = begin(plan, count);
     let mut n: usize = 0;
     loop {
-        let step = strides::stride(words, starts, ws, locals, plan, g);
-        match step {
-            Progress::Go(next) => {
-                g = next;
-            }
-            Progress::Free(next, event) => {
-                n = marks::mark(ws, graph, n, g.transitions - g.since, event);
-                g = next;
-            }
-            _ => {
-                return finish(graph, plan, g, n, step);
-            }
-        }
+        let reached = onward(words, starts, ws, locals, plan, from);
+        let g = reached.registers;
+        let first = reached.step;
+        let step = resolved(words, starts, ws, locals, plan, g, first);
+        let Progress::Paused(pause) = step else {
+            return finish(graph, plan, g, n, step);
+        };
+        let moved = free(words, starts, ws, locals, graph, plan, g, n, pause);
+        let end = moved.step;
+        n = moved.words;
+        let Progress::Free(next, _) = end else {
+            return finish(graph, plan, g, n, end);
+        };
+        from = next;
     }
 }
 

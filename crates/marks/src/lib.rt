@@ -5,38 +5,46 @@
 
 use compact::Event;
 ghost use mathlib.Core.Path.{_≡_};
-ghost use Prim.Native.Nat.{_+_, _*_, _≤_, _<_, _^_};
+ghost use Prim.Native.Nat.{_<_};
 ghost use lib.ListN.{length};
-ghost use Rattle.frames.specs.Frames.{framePlace, frameRight, placed, rightPlaced};
-ghost use Rattle.graph.specs.Writing.{count-ended, lent-ended, lent-forked, lent-turned, lent-joined};
+ghost use Rattle.graph.specs.Writing.{count-ended, lent-ended};
 ghost use Rattle.marks.specs.Marks.{Small, Markable, Marked};
 
-// A fork begins: the frame `at` keeps its place.
-fn begin(ws: &mut [u64], graph: &mut [u32], n: usize, made: u64, at: usize) -> usize
-    requires { ⌜ (Small n made) × (32 * at + 32 ≤ length (now ws)) ⌝ }
-    ensures { λ r. ⌜ (now (ws .exit) ≡ placed (now (ws .entry)) (32 * at) (count-ended n made)) × (now (graph .exit) ≡ lent-forked (now (graph .entry)) n made) × (r ≡ count-ended n made + 3) ⌝ }
+// A fork begins: the frame `at` keeps its place. The number of words after it.
+pub fn begin(ws: &mut [u64], graph: &mut [u32], n: usize, made: u64, at: usize) -> usize
+    requires { ⌜ (0 < length (now graph) → Markable (now ws) n made (Event.Fork at)) ⌝ }
+    ensures { λ r. ⌜ Marked (now (ws .entry)) (now (graph .entry)) n made (Event.Fork at) (now (ws .exit)) (now (graph .exit)) r ⌝ }
 {
+    if graph.len() == 0 {
+        return n;
+    }
     let place = graph::fork(graph, n, made);
     frames::keep_place(ws, frames::WORDS * at, place);
     place + 3
 }
 
-// The left graph of the fork at the frame `at` ends: the frame keeps where the right one begins.
-fn turn(ws: &mut [u64], graph: &mut [u32], n: usize, made: u64, at: usize) -> usize
-    requires { ⌜ (Small n made) × (32 * at + 32 ≤ length (now ws)) × (framePlace (now ws) (32 * at) + 3 ≤ count-ended n made) ⌝ }
-    ensures { λ r. ⌜ (now (ws .exit) ≡ rightPlaced (now (ws .entry)) (32 * at) (count-ended n made)) × (now (graph .exit) ≡ lent-turned (now (graph .entry)) n made (framePlace (now (ws .entry)) (32 * at))) × (r ≡ count-ended n made) ⌝ }
+// The left graph of the fork at the frame `at` ends: the frame keeps where the right one begins. The number of words after it.
+pub fn turn(ws: &mut [u64], graph: &mut [u32], n: usize, made: u64, at: usize) -> usize
+    requires { ⌜ (0 < length (now graph) → Markable (now ws) n made (Event.Turn at)) ⌝ }
+    ensures { λ r. ⌜ Marked (now (ws .entry)) (now (graph .entry)) n made (Event.Turn at) (now (ws .exit)) (now (graph .exit)) r ⌝ }
 {
+    if graph.len() == 0 {
+        return n;
+    }
     let b = frames::WORDS * at;
     let end = graph::turn(graph, n, made, frames::place_of(ws, b));
     frames::keep_right(ws, b, end);
     end
 }
 
-// The right graph of the fork at the frame `at` ends.
-fn join(ws: &[u64], graph: &mut [u32], n: usize, made: u64, at: usize) -> usize
-    requires { ⌜ (Small n made) × (32 * at + 32 ≤ length (now ws)) × (framePlace (now ws) (32 * at) < 2 ^ 32) × (frameRight (now ws) (32 * at) ≤ count-ended n made) ⌝ }
-    ensures { λ r. ⌜ (now (graph .exit) ≡ lent-joined (now (graph .entry)) n made (framePlace (now (ws .entry)) (32 * at)) (frameRight (now (ws .entry)) (32 * at))) × (r ≡ count-ended n made) ⌝ }
+// The right graph of the fork at the frame `at` ends. The number of words after it.
+pub fn join(ws: &[u64], graph: &mut [u32], n: usize, made: u64, at: usize) -> usize
+    requires { ⌜ (0 < length (now graph) → Markable (now ws) n made (Event.Join at)) ⌝ }
+    ensures { λ r. ⌜ Marked (now (ws .entry)) (now (graph .entry)) n made (Event.Join at) (now (ws .entry)) (now (graph .exit)) r ⌝ }
 {
+    if graph.len() == 0 {
+        return n;
+    }
     let b = frames::WORDS * at;
     graph::join(
         graph,
@@ -45,21 +53,6 @@ fn join(ws: &[u64], graph: &mut [u32], n: usize, made: u64, at: usize) -> usize
         frames::place_of(ws, b),
         frames::right_of(ws, b),
     )
-}
-
-// The number of words after a free move.
-pub fn mark(ws: &mut [u64], graph: &mut [u32], n: usize, made: u64, event: Event) -> usize
-    requires { ⌜ (0 < length (now graph) → Markable (now ws) n made event) ⌝ }
-    ensures { λ r. ⌜ Marked (now (ws .entry)) (now (graph .entry)) n made event (now (ws .exit)) (now (graph .exit)) r ⌝ }
-{
-    if graph.len() == 0 {
-        return n;
-    }
-    match event {
-        Event::Fork(at) => begin(ws, graph, n, made, at),
-        Event::Turn(at) => turn(ws, graph, n, made, at),
-        Event::Join(at) => join(ws, graph, n, made, at),
-    }
 }
 
 // The number of words at the end of a run, with the last stretch. A buffer of no words has room for no graph, and nothing was counted: 1 is told.

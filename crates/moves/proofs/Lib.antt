@@ -8,3 +8,4 @@ pub mod Sparing
 pub mod Advancing
 pub mod Steps
 pub mod Returning
+pub mod Ticking

@@ -8,13 +8,14 @@ use lib.ListN.{length, getD, take}
 use lib.Dec.{ltb}
 use lib.Seq.{getD-take}
 use borrow.Author.Tests.{lt-ltb, le-ltb}
-use Rattle.schedule.specs.FrameMachine.{go-on, open-frame}
+use Rattle.schedule.specs.FrameMachine.{Next, go-on, open-frame, open-fork, stuck}
 use Rattle.schedule.specs.FrameMachine.{Control as FlatControl}
 use Rattle.schedule.specs.Algebra.{CostAlgebra, spans}
 use Rattle.schedule.specs.Machine.{Slot, ordinary, plain-left, promoted-left, stop, state, ended, ongoing, tick, after-transition, with-fuel, with-frame, evaluated, move}
 use Rattle.schedule.specs.Machine.{RunCounts}
 use Rattle.table.specs.declared.Operation.{Operation}
-use Rattle.table.specs.declared.Node.the-variants.{Constant, Local, Arithmetic, Choose, Let, Call, Both}
+use Rattle.table.specs.declared.Node.{Node}
+use Rattle.table.specs.declared.Node.the-variants.{Constant, Local, Arithmetic, Choose, Let, Call, Both, Unknown}
 use Rattle.table.specs.Words.{arityAt, startOf, tagAt, aAt}
 use Rattle.table.specs.Nodes.{nodeAt}
 use Rattle.table.specs.Read.{startsOf}
@@ -42,6 +43,22 @@ below-cap n d h g = omega arith
 pushed-slot : (ws ws′ : List ℕ) (d kind f p k : ℕ) (ls : List ℕ) (g : ℕ) → Pushed ws ws′ (32 * d) kind f p k ls g
     → slotAt ws′ (32 * d) ≡ slotOf kind (record { function = f; node = p; locals = take k ls }) 0 [] g (frameLeft ws′ (32 * d))
 pushed-slot ws ws′ d kind f p k ls g u = rw (u .is-kind, u .is-function, u .is-node, u .is-count, u .is-value, u .is-before, u .is-locals)
+
+-- only a "both" opens a fork
+pub fork-tag : (w : List ℕ) (c : Code) (n : Node) (b d : Code) → next w c n ≡ open-fork b d → tagFor n ≡ 6
+unfolding next tagFor
+fork-tag w c (Constant v) b d e = let no : _≡_ {A = ℕ} 0 1 = cc in absurd (omega arith)
+fork-tag w c (Local slot) b d e = let no : _≡_ {A = ℕ} 0 1 = cc in absurd (omega arith)
+fork-tag w c (Arithmetic o x) b d e = let no : _≡_ {A = ℕ} 0 1 = cc in absurd (omega arith)
+fork-tag w c (Choose x y) b d e = let no : _≡_ {A = ℕ} 0 1 = cc in absurd (omega arith)
+fork-tag w c (Let x) b d e = let no : _≡_ {A = ℕ} 0 1 = cc in absurd (omega arith)
+fork-tag w c (Call f x y) b d e = absurd (on (arityAt w f) e)
+  where
+    on : (k : ℕ) → call w c f k ≡ open-fork b d → ⊥
+    on zero i = unfold call in let no : _≡_ {A = ℕ} 0 1 = cc in omega arith
+    on (suc k) i = unfold call in let no : _≡_ {A = ℕ} 0 1 = cc in omega arith
+fork-tag w c (Both x y) b d e = refl
+fork-tag w c Unknown b d e = let no : _≡_ {A = ℕ} 0 1 = cc in absurd (omega arith)
 
 module _ (w ws ls : List ℕ) (plan : Plan) (s : Registers) (r : Ready w ws ls plan s) where
   abbrev cap : ℕ
@@ -103,6 +120,20 @@ module _ (w ws ls : List ℕ) (plan : Plan) (s : Registers) (r : Ready w ws ls p
         → Stepped w ws ls plan s ws ls o
     unfolding resultOf KeptBy
     stopped i o u x = rw u (record { same = x; kept = tt; spared = spared-same ws })
+
+    -- the fuel is spent, at a node that is no fork promoted at its birth
+    pub stepped-spent : plan .fuel .0 ≤ s .transitions → ((b d : Code) → next w code (nodeAt w (startOf w f) p) ≡ open-fork b d → plan .birth ≡ false)
+        → (o : Step) → o ≡ halted 20 f p → Stepped w ws ls plan s ws ls o
+    unfolding evaluated with-fuel
+    stepped-spent spent low o u = stopped 20 o u (evaluates ∙ on (next w code (nodeAt w (startOf w f) p)) refl)
+      where
+        on : (x : Next Code Frame Code) → next w code (nodeAt w (startOf w f) p) ≡ x
+            → evaluated K (language w) (plan .fuel .0) cap (plan .birth) (place code) x (stackOf ws (s .depth)) (s .credits .0) (s .span .0) (runCountsOf s)
+            ≡ ended (stop 20 (place code)) (s .span .0) (runCountsOf s)
+        on (go-on c) i = rw (le-ltb (s .transitions) (plan .fuel .0) spent)
+        on (open-frame fr d) i = rw (le-ltb (s .transitions) (plan .fuel .0) spent)
+        on (open-fork b d) i = rw (low b d i, le-ltb (s .transitions) (plan .fuel .0) spent)
+        on (stuck j) i = rw (le-ltb (s .transitions) (plan .fuel .0) spent)
 
     -- no frame is opened
     stepped-transit : (c : Control) (o : Step) → next w code (nodeAt w (startOf w f) p) ≡ go-on (controlOf c ls) → Controlled w c → o ≡ transited plan s (record { function = f; node = p; count = k }) c

@@ -104,6 +104,19 @@ pub record Stepped (w ws ls : List ℕ) (plan : Plan) (s : Registers) (ws′ ls�
   pub kept : KeptBy w ws′ ls′ (plan .birth) r
   pub spared : Spared ws ws′
 
+-- where a move goes on, it is by one transition of the same machine: credits, span and transitions are one more, and the oldest fork is kept
+unfoldable pub Ticks : Registers → Step → Type 0
+Ticks s (Go next) =
+    (next .credits .0 ≡ s .credits .0 + 1) × (next .span .0 ≡ s .span .0 + 1) × (next .transitions ≡ s .transitions + 1) × (next .oldest ≡ s .oldest)
+Ticks s (Value v) = Unit {0}
+Ticks s (Halt h) = Unit {0}
+
+-- it goes on by a machine that starts afresh, and the oldest fork is kept
+unfoldable pub Restarts : Registers → Step → Type 0
+Restarts s (Go next) = next .oldest ≡ s .oldest
+Restarts s (Value v) = ⊥
+Restarts s (Halt h) = ⊥
+
 -- and with the promotion that may be due
 pub record Advanced (w ws ls : List ℕ) (plan : Plan) (s : Registers) (ws′ ls′ : List ℕ) (r : Step) : Type 0 where
   pub same : step-by (spans (plan .tau)) (language w) (plan .fuel .0) (length ws / 32) (plan .birth) (plan .period) (stateOf w (plan .tau) ws ls s) ≡ resultOf w (plan .tau) ws′ ls′ s r

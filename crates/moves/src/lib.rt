@@ -7,7 +7,7 @@ use schedule::Fuel;
 use schedule::Span;
 use table::Node;
 ghost use mathlib.Core.Path.{_≡_};
-ghost use mathlib.Core.Bool.{_&&_};
+ghost use mathlib.Core.Bool.{false, _&&_};
 ghost use Prim.Native.Nat.{_+_, _*_, _/_, _<_, _≤_, _^_, max};
 ghost use lib.ListN.{length};
 ghost use lib.Dec.{ltb, leb};
@@ -15,7 +15,7 @@ ghost use Rattle.table.specs.Words.{arityAt};
 ghost use Rattle.table.specs.Read.{startsOf};
 ghost use Rattle.frames.specs.Frames.{frameKind, frameCount, frameValue};
 ghost use Rattle.moves.specs.Layout.{ticked, restarted, risen, oldestWith, oldestWithout, halted};
-ghost use Rattle.moves.specs.Ready.{Returns, Paid, Stepped, Framed, transited, Opened, Forked, OpenedBoth, Sitting, Child, Operand, operation, Resumed, calledAt, Concluded, Found, Promoted};
+ghost use Rattle.moves.specs.Ready.{Returns, Paid, Stepped, Ticks, Restarts, Framed, Opened, Forked, OpenedBoth, Sitting, Child, Operand, operation, Resumed, calledAt, Concluded, Found, Promoted};
 
 // The kinds of frames: an arithmetic that awaits its left or its right operand, a choose, a let, a call; a plain fork that awaits its left or
 // its right value, and a promoted one.
@@ -165,20 +165,7 @@ fn rise(s: Registers) -> Registers
     }
 }
 
-// A transition that opens no frame, if there is fuel.
-pub fn transit(plan: Plan, s: Registers, seat: Seat, control: Control) -> Step
-    requires { ⌜ (s .credits .0 < 2 ^ 60) × (s .span .0 < 2 ^ 60) × (s .transitions < 2 ^ 60) ⌝ }
-    ensures { λ r. ⌜ r ≡ transited plan s seat control ⌝ }
-{
-    let fuel = plan.fuel;
-    if fuel.allows(s.transitions) {
-        Step::Go(tick(s, control, s.depth, s.oldest))
-    } else {
-        halt(20, seat.function, seat.node)
-    }
-}
-
-// A transition that opens a frame, if there is fuel and then a free frame.
+// A transition that opens a frame, if one is free.
 pub fn open(
     ws: &mut [u64],
     locals: &[u64],
@@ -188,31 +175,25 @@ pub fn open(
     kind: u64,
     oldest: usize,
 ) -> Step
-    requires { ⌜ Framed (now ws) (now locals) s seat ⌝ }
+    requires { ⌜ (Framed (now ws) (now locals) s seat) × (Paid plan s) ⌝ }
     ensures { λ r. ⌜ Opened (now (ws .entry)) (now (ws .exit)) (now (locals .entry)) plan s seat kind oldest r ⌝ }
 {
-    let depth = s.depth;
     let f = seat.function;
     let p = seat.node;
     let k = seat.count;
-    let fuel = plan.fuel;
-    if fuel.allows(s.transitions) {
-        if depth < ws.len() / frames::WORDS {
-            let b = frames::WORDS * depth;
-            frames::push(ws, b, kind, seat, locals, Span::none());
-            let up = rise(s);
-            let first = p + 1;
-            Step::Go(tick(up, Control::Eval(f, first, k), depth + 1, oldest))
-        } else {
-            halt(21, f, p)
-        }
+    if s.depth < ws.len() / frames::WORDS {
+        let b = frames::WORDS * s.depth;
+        frames::push(ws, b, kind, seat, locals, Span::none());
+        let up = rise(s);
+        let first = p + 1;
+        Step::Go(tick(up, Control::Eval(f, first, k), s.depth + 1, oldest))
     } else {
-        halt(20, f, p)
+        halt(21, f, p)
     }
 }
 
 // Opens a fork that is promoted at its birth, with no transition.
-fn fork(ws: &mut [u64], locals: &[u64], s: Registers, seat: Seat) -> Step
+pub fn fork(ws: &mut [u64], locals: &[u64], s: Registers, seat: Seat) -> Step
     requires { ⌜ Framed (now ws) (now locals) s seat ⌝ }
     ensures { λ r. ⌜ Forked (now (ws .entry)) (now (ws .exit)) (now (locals .entry)) s seat r ⌝ }
 {
@@ -253,17 +234,13 @@ fn oldest_without(oldest: usize, top: usize) -> usize
     if oldest == top { NO_FORK } else { oldest }
 }
 
-// Evaluates a "both": a parallel fork looks only for its frame.
+// Evaluates a "both" whose fork is plain.
 pub fn evaluate_both(ws: &mut [u64], locals: &[u64], plan: Plan, s: Registers, seat: Seat) -> Step
-    requires { ⌜ Framed (now ws) (now locals) s seat ⌝ }
+    requires { ⌜ (Framed (now ws) (now locals) s seat) × (Paid plan s) × (plan .birth ≡ false) ⌝ }
     ensures { λ r. ⌜ OpenedBoth (now (ws .entry)) (now (ws .exit)) (now (locals .entry)) plan s seat r ⌝ }
 {
-    if plan.birth {
-        fork(ws, locals, s, seat)
-    } else {
-        let oldest = oldest_with(s.oldest, s.depth);
-        open(ws, locals, plan, s, seat, PLAIN_LEFT, oldest)
-    }
+    let oldest = oldest_with(s.oldest, s.depth);
+    open(ws, locals, plan, s, seat, PLAIN_LEFT, oldest)
 }
 
 // The second child of the node of the frame at b, or its third, with the frame's locals.
@@ -308,7 +285,7 @@ pub fn ret_left_operand(
     top: usize,
 ) -> Step
     requires { ⌜ (Returns (now words) (now ws) (now locals) plan s v top 0) × (Paid plan s) × (now starts ≡ startsOf (now words)) ⌝ }
-    ensures { λ r. ⌜ Stepped (now (words .entry)) (now (ws .entry)) (now (locals .entry)) plan s (now (ws .exit)) (now (locals .exit)) r ⌝ }
+    ensures { λ r. ⌜ (Stepped (now (words .entry)) (now (ws .entry)) (now (locals .entry)) plan s (now (ws .exit)) (now (locals .exit)) r) × (Ticks s r) ⌝ }
 {
     let b = frames::WORDS * top;
     frames::turn(ws, b, RIGHT_OPERAND, v, Span::none());
@@ -362,7 +339,7 @@ pub fn ret_right_operand(
     top: usize,
 ) -> Step
     requires { ⌜ (Returns (now words) (now ws) (now locals) plan s v top 1) × (Paid plan s) × (now starts ≡ startsOf (now words)) ⌝ }
-    ensures { λ r. ⌜ Stepped (now (words .entry)) (now (ws .entry)) (now (locals .entry)) plan s (now (ws .entry)) (now (locals .entry)) r ⌝ }
+    ensures { λ r. ⌜ (Stepped (now (words .entry)) (now (ws .entry)) (now (locals .entry)) plan s (now (ws .entry)) (now (locals .entry)) r) × (Ticks s r) ⌝ }
 {
     let computed = operated(words, starts, ws, frames::WORDS * top, v);
     resumed(s, top, computed)
@@ -380,7 +357,7 @@ pub fn ret_condition(
     top: usize,
 ) -> Step
     requires { ⌜ (Returns (now words) (now ws) (now locals) plan s v top 2) × (Paid plan s) × (now starts ≡ startsOf (now words)) ⌝ }
-    ensures { λ r. ⌜ Stepped (now (words .entry)) (now (ws .entry)) (now (locals .entry)) plan s (now (ws .entry)) (now (locals .exit)) r ⌝ }
+    ensures { λ r. ⌜ (Stepped (now (words .entry)) (now (ws .entry)) (now (locals .entry)) plan s (now (ws .entry)) (now (locals .exit)) r) × (Ticks s r) ⌝ }
 {
     let seat = child(words, starts, ws, locals, frames::WORDS * top, v == 0);
     Step::Go(tick(
@@ -403,7 +380,7 @@ pub fn ret_binding(
     top: usize,
 ) -> Step
     requires { ⌜ (Returns (now words) (now ws) (now locals) plan s v top 3) × (Paid plan s) × (now starts ≡ startsOf (now words)) ⌝ }
-    ensures { λ r. ⌜ Stepped (now (words .entry)) (now (ws .entry)) (now (locals .entry)) plan s (now (ws .entry)) (now (locals .exit)) r ⌝ }
+    ensures { λ r. ⌜ (Stepped (now (words .entry)) (now (ws .entry)) (now (locals .entry)) plan s (now (ws .entry)) (now (locals .exit)) r) × (Ticks s r) ⌝ }
 {
     let seat = child(words, starts, ws, locals, frames::WORDS * top, false);
     let count = seat.count;
@@ -429,7 +406,7 @@ fn next_argument(
     n: usize,
 ) -> Step
     requires { ⌜ (Returns (now words) (now ws) (now locals) plan s v top 4) × (Paid plan s) × (now starts ≡ startsOf (now words)) × (n ≡ frameValue (now ws) (32 * top)) × (n + 1 < arityAt (now words) (calledAt (now words) (now ws) (32 * top))) ⌝ }
-    ensures { λ r. ⌜ Stepped (now (words .entry)) (now (ws .entry)) (now (locals .entry)) plan s (now (ws .exit)) (now (locals .exit)) r ⌝ }
+    ensures { λ r. ⌜ (Stepped (now (words .entry)) (now (ws .entry)) (now (locals .entry)) plan s (now (ws .exit)) (now (locals .exit)) r) × (Ticks s r) ⌝ }
 {
     let b = frames::WORDS * top;
     frames::collect(ws, b, n, v);
@@ -455,7 +432,7 @@ fn last_argument(
     g: usize,
 ) -> Step
     requires { ⌜ (Returns (now words) (now ws) (now locals) plan s v top 4) × (Paid plan s) × (n ≡ frameValue (now ws) (32 * top)) × (arityAt (now words) g ≤ n + 1) × (g ≡ calledAt (now words) (now ws) (32 * top)) ⌝ }
-    ensures { λ r. ⌜ Stepped (now (words .entry)) (now (ws .entry)) (now (locals .entry)) plan s (now (ws .entry)) (now (locals .exit)) r ⌝ }
+    ensures { λ r. ⌜ (Stepped (now (words .entry)) (now (ws .entry)) (now (locals .entry)) plan s (now (ws .entry)) (now (locals .exit)) r) × (Ticks s r) ⌝ }
 {
     frames::load_arguments(locals, ws, frames::WORDS * top, n);
     frames::append(locals, n, v);
@@ -475,7 +452,7 @@ pub fn ret_argument(
     top: usize,
 ) -> Step
     requires { ⌜ (Returns (now words) (now ws) (now locals) plan s v top 4) × (Paid plan s) × (now starts ≡ startsOf (now words)) ⌝ }
-    ensures { λ r. ⌜ Stepped (now (words .entry)) (now (ws .entry)) (now (locals .entry)) plan s (now (ws .exit)) (now (locals .exit)) r ⌝ }
+    ensures { λ r. ⌜ (Stepped (now (words .entry)) (now (ws .entry)) (now (locals .entry)) plan s (now (ws .exit)) (now (locals .exit)) r) × (Ticks s r) ⌝ }
 {
     let b = frames::WORDS * top;
     let seat = frames::seat_of(ws, b);
@@ -547,14 +524,14 @@ pub fn ret_plain_right(
     top: usize,
 ) -> Step
     requires { ⌜ (Returns (now words) (now ws) (now locals) plan s v top 6) × (Paid plan s) × (now starts ≡ startsOf (now words)) ⌝ }
-    ensures { λ r. ⌜ Stepped (now (words .entry)) (now (ws .entry)) (now (locals .entry)) plan s (now (ws .entry)) (now (locals .exit)) r ⌝ }
+    ensures { λ r. ⌜ (Stepped (now (words .entry)) (now (ws .entry)) (now (locals .entry)) plan s (now (ws .entry)) (now (locals .exit)) r) × (Ticks s r) ⌝ }
 {
     let control = body(words, starts, ws, locals, frames::WORDS * top, v);
     Step::Go(tick(s, control, top, s.oldest))
 }
 
 // The left value of a promoted fork, with no transition: the right branch is a fresh machine.
-fn turned(
+pub fn turned(
     words: &[u32],
     starts: &[usize],
     ws: &mut [u64],
@@ -565,7 +542,7 @@ fn turned(
     top: usize,
 ) -> Step
     requires { ⌜ (Returns (now words) (now ws) (now locals) plan s v top 7) × (now starts ≡ startsOf (now words)) ⌝ }
-    ensures { λ r. ⌜ Stepped (now (words .entry)) (now (ws .entry)) (now (locals .entry)) plan s (now (ws .exit)) (now (locals .exit)) r ⌝ }
+    ensures { λ r. ⌜ (Stepped (now (words .entry)) (now (ws .entry)) (now (locals .entry)) plan s (now (ws .exit)) (now (locals .exit)) r) × (Restarts s r) ⌝ }
 {
     let span = s.span;
     let b = frames::WORDS * top;
@@ -582,7 +559,7 @@ fn turned(
 }
 
 // The right value of a promoted fork, with no transition: the body goes on after both.
-fn joined(
+pub fn joined(
     words: &[u32],
     starts: &[usize],
     ws: &[u64],
@@ -594,7 +571,7 @@ fn joined(
     kind: u64,
 ) -> Step
     requires { ⌜ (Returns (now words) (now ws) (now locals) plan s v top kind) × (8 ≤ kind) × (now starts ≡ startsOf (now words)) ⌝ }
-    ensures { λ r. ⌜ Stepped (now (words .entry)) (now (ws .entry)) (now (locals .entry)) plan s (now (ws .entry)) (now (locals .exit)) r ⌝ }
+    ensures { λ r. ⌜ (Stepped (now (words .entry)) (now (ws .entry)) (now (locals .entry)) plan s (now (ws .entry)) (now (locals .exit)) r) × (Restarts s r) ⌝ }
 {
     let b = frames::WORDS * top;
     let before = frames::before_of(ws, b);
@@ -603,28 +580,6 @@ fn joined(
     let whole = before.joined(plan.tau, left, right);
     let control = body(words, starts, ws, locals, b, v);
     Step::Go(restart(s, control, top, s.oldest, whole, s.forks))
-}
-
-// A value arrives at a promoted fork.
-pub fn arrive(
-    words: &[u32],
-    starts: &[usize],
-    ws: &mut [u64],
-    locals: &mut [u64],
-    plan: Plan,
-    s: Registers,
-    v: u64,
-    top: usize,
-    kind: u64,
-) -> Step
-    requires { ⌜ (Returns (now words) (now ws) (now locals) plan s v top kind) × (7 ≤ kind) × (now starts ≡ startsOf (now words)) ⌝ }
-    ensures { λ r. ⌜ Stepped (now (words .entry)) (now (ws .entry)) (now (locals .entry)) plan s (now (ws .exit)) (now (locals .exit)) r ⌝ }
-{
-    if kind == PROMOTED_LEFT {
-        turned(words, starts, ws, locals, plan, s, v, top)
-    } else {
-        joined(words, starts, ws, locals, plan, s, v, top, kind)
-    }
 }
 
 // The kind of frame d.

@@ -22,7 +22,7 @@ use Rattle.moves.specs.declared.Control.the-variants.{Eval}
 use Rattle.moves.specs.declared.Plan.{Plan}
 use Rattle.frames.specs.declared.Seat.{Seat}
 use Rattle.moves.specs.Layout.{controlOf}
-use Rattle.moves.specs.Ready.{Stands, Controlled, Framed, transited, Opened}
+use Rattle.moves.specs.Ready.{Paid, Stands, Controlled, Framed, transited, Opened}
 use Rattle.moves.proofs.Nodes.{called-in, argument-first, argument-later, enter}
 use Rattle.moves.proofs.Steps.{stepped-enter, stepped-call}
 use Rattle.compact.specs.declared.Compact.{Compact}
@@ -170,7 +170,7 @@ module _ {w ws ls : List ℕ} {plan : Plan} {g : Compact} {seat : Seat} {start a
   pub jump-stays : (ls′ : List ℕ) (r : Progress) → Jumps w ls g seat ls′ r → ((next : Compact) → r ≡ Go next → ⊥) → ls′ ≡ ls
   jump-stays ls′ r j n = jumps-none w ls g seat ls′ r j n
 
-  pub can-open : {ls′ : List ℕ} → ls′ ≡ ls → Framed ws ls′ (full g) seat × Paced plan g
+  pub can-open : {ls′ : List ℕ} → ls′ ≡ ls → Framed ws ls′ (full g) seat × Paced plan g × Paid plan (full g)
   can-open {ls′} e = frame-fits w ws ls plan g seat start at tag v ws ls′ refl e
 
 -- A CALL, by one step

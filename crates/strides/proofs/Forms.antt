@@ -23,7 +23,7 @@ use Rattle.moves.specs.Ready.{Stands, Controlled}
 use Rattle.moves.proofs.Nodes.{inside, arithmetic-in, operation-in, choose-in, let-in}
 use Rattle.compact.specs.declared.Compact.{Compact}
 use Rattle.compact.specs.declared.Progress.{Progress}
-use Rattle.compact.specs.declared.Progress.the-variants.{Go, Free, Value, Halt}
+use Rattle.compact.specs.declared.Progress.the-variants.{Go, Free, Paused, Value, Halt}
 use Rattle.compact.specs.Compact.{laterOf, Roomy}
 use Rattle.operands.specs.Operands.{numbered, costAt, framesOf, simpleAt, SimpleAt, CostAt}
 use Rattle.strides.specs.Strides.{Site, Tagged, codeOf, Jump, Jumps, Paired, whole, half, neither, Led}
@@ -208,5 +208,6 @@ pub whole-paired : (w ws ls : List ℕ) (g : Compact) (seat : Seat) (r : Progres
 unfolding Jumps
 whole-paired w ws ls g seat (Go next) j = whole next refl refl j
 whole-paired w ws ls g seat (Free next event) j = neither (λ next u. let z : _≡_ {A = ℕ} 0 1 = cc in omega arith) refl
+whole-paired w ws ls g seat (Paused p) j = neither (λ next u. let z : _≡_ {A = ℕ} 0 1 = cc in omega arith) refl
 whole-paired w ws ls g seat (Value v) j = neither (λ next u. let z : _≡_ {A = ℕ} 0 1 = cc in omega arith) refl
 whole-paired w ws ls g seat (Halt h) j = neither (λ next u. let z : _≡_ {A = ℕ} 0 1 = cc in omega arith) refl

@@ -4,3 +4,4 @@ pub mod Forms
 pub mod Calls
 pub mod Settling
 pub mod Striding
+pub mod Pausing

@@ -18,7 +18,7 @@ use Rattle.frames.specs.Frames.{frameValue, frameArguments, frameBefore, frameL
 use Rattle.table.specs.declared.Node.the-variants.{Constant, Local, Both}
 use Rattle.table.specs.Words.{startOf, tagAt, aAt, bAt, cAt}
 use Rattle.table.specs.Nodes.{nodeOf, nodeAt}
-use Rattle.moves.specs.declared.Control.the-variants.{Ret}
+use Rattle.moves.specs.declared.Control.the-variants.{Eval, Ret}
 use Rattle.moves.specs.declared.Registers.{Registers}
 use Rattle.frames.specs.declared.Seat.{Seat}
 use Rattle.moves.specs.declared.Plan.{Plan}
@@ -35,21 +35,14 @@ use Rattle.compact.specs.declared.Event.the-variants.{Fork, Turn, Join}
 use Rattle.compact.specs.declared.Progress.{Progress}
 use Rattle.compact.specs.declared.Progress.the-variants as progress
 use Rattle.compact.specs.Compact.{full, stepOf, PacedBy, compactOf, settledOf, Settles, freedBy, Transits, Small}
-use Rattle.compact.proofs.Keeping.{compact-full, compact-paced, freed-step, freed-paced}
+use Rattle.compact.proofs.Keeping.{compact-full, compact-paced}
 use Rattle.operands.specs.Operands.{leafAt}
-use Rattle.strides.specs.Strides.{one, Starts, Calm, Returning, Forks, Occurs, Marks, Strides, Evaluating}
+use Rattle.strides.specs.Strides.{one, Starts, Calm, Returning, Forks, Occurs, Strides, Frees, Evaluating}
 use Rattle.strides.specs.Strides as strides
 
 -- A TRANSITION IS MADE where a step goes on
 abbrev pub Rises : ℕ → Step → Type 0
 Rises t o = (next : Registers) → o ≡ Go next → t < next .transitions
-
-transits-marks : (w ws ls : List ℕ) (plan : Plan) (g : Compact) (r : Progress) → Transits g r → Marks w ws ls plan g r
-unfolding Transits Marks
-transits-marks w ws ls plan g (progress.Go next) t = t
-transits-marks w ws ls plan g (progress.Free next event) t = absurd t
-transits-marks w ws ls plan g (progress.Value v) t = t
-transits-marks w ws ls plan g (progress.Halt h) t = t
 
 -- where a value returns to a frame that is not promoted
 unfoldable Plain : {Cost X Y : Type 0} → Slot Cost X Y → Type 0
@@ -98,12 +91,7 @@ paid-rises w ws ls plan s v t kind q h ws′ ls′ o m next e =
     let up = plain-rises (moved (move-view (spans (plan .tau)) (language w) (plan .fuel .0) (length ws / 32) (plan .birth) _) goes) (plain-slot kind code _ _ _ _ h) in
     omega (arith, up)
 
--- the counts of a step that goes on
-unfoldable forks-of : Step → ℕ
-forks-of (Go s) = s .forks
-forks-of (Value v) = 0
-forks-of (Halt h) = 0
-
+-- the transitions of a step that goes on
 unfoldable transitions-of : Step → ℕ
 transitions-of (Go s) = s .transitions
 transitions-of (Value v) = 0
@@ -143,32 +131,27 @@ module _ (w ws ls : List ℕ) (plan : Plan) (g : Compact) (s : Starts w ws ls pl
 
     -- one that makes a transition
     pub step-strides : (o : Step) → Advanced w ws ls plan (full g) ws′ ls′ o → Rises (g .transitions) o → (r : Progress) → r ≡ settledOf plan o → Strides w ws ls plan g ws′ ls′ r
-    step-strides o a up r e = rw e (record {
-      strode = one (step-advanced o a (settledOf plan o) refl);
-      paced = step-paced o a;
-      marks = by o up;
-      single = λ next event i. step-advanced o a (settledOf plan o) refl;
-    })
+    step-strides o a up r e = rw e (record { strode = one (step-advanced o a (settledOf plan o) refl); paced = step-paced o a; transits = by o up })
       where
-        by : (o : Step) → Rises (g .transitions) o → Marks w ws ls plan g (settledOf plan o)
-        by (Go next) up = unfold settledOf Marks in up next refl
-        by (Value v) up = unfold settledOf Marks in tt
-        by (Halt h) up = unfold settledOf Marks in tt
+        by : (o : Step) → Rises (g .transitions) o → Transits g (settledOf plan o)
+        by (Go next) up = unfold settledOf Transits in up next refl
+        by (Value v) up = unfold settledOf Transits in tt
+        by (Halt h) up = unfold settledOf Transits in tt
 
     -- one that is free
-    pub free-strides : (event : Event) (o : Step) → Advanced w ws ls plan (full g) ws′ ls′ o → ((next : Registers) → o ≡ Go next → Occurs w ws ls plan g (compactOf plan next) event)
-        → (r : Progress) → r ≡ freedBy event (settledOf plan o) → Strides w ws ls plan g ws′ ls′ r
-    free-strides event o a occurs r e = rw e (record {
-      strode = one (step-advanced o a (freedBy event (settledOf plan o)) (freed-step event (settledOf plan o)));
-      paced = freed-paced plan event (settledOf plan o) (step-paced o a);
-      marks = by o occurs;
-      single = λ next other i. step-advanced o a (freedBy event (settledOf plan o)) (freed-step event (settledOf plan o));
-    })
-      where
-        by : (o : Step) → ((next : Registers) → o ≡ Go next → Occurs w ws ls plan g (compactOf plan next) event) → Marks w ws ls plan g (freedBy event (settledOf plan o))
-        by (Go next) occurs = unfold settledOf freedBy Marks in occurs next refl
-        by (Value v) occurs = unfold settledOf freedBy Marks in tt
-        by (Halt h) occurs = unfold settledOf freedBy Marks in tt
+    pub step-frees : (event : Event) (o : Step) → Advanced w ws ls plan (full g) ws′ ls′ o → (next : Registers) → o ≡ Go next → Occurs w ws ls plan g (compactOf plan next) event
+        → (r : Progress) → r ≡ freedBy event (settledOf plan o) → Frees w ws ls plan g event ws′ ls′ r
+    unfolding settledOf freedBy Settles
+    step-frees event o a next e occurs r u =
+        let b : Advanced w ws ls plan (full g) ws′ ls′ (Go next) = rw e at a in
+        let x = step-settles (Go next) b in
+        record {
+          next = compactOf plan next;
+          is = rw (u, e);
+          advanced = rw (compact-full plan next (x .0) (x .1) (x .2)) b;
+          paced = compact-paced plan next (x .0) (x .1) (x .2);
+          occurs = occurs;
+        }
 
 -- where no promotion is due, of a move
 module _ (w ws ls : List ℕ) (plan : Plan) (g : Compact) (c : Calm w ws ls plan g) (ws′ ls′ : List ℕ) (o : Step) (m : Stepped w ws ls plan (full g) ws′ ls′ o) where
@@ -181,13 +164,13 @@ module _ (w ws ls : List ℕ) (plan : Plan) (g : Compact) (c : Calm w ws ls plan
   pub move-strides : Rises (g .transitions) o → (r : Progress) → r ≡ settledOf plan o → Strides w ws ls plan g ws′ ls′ r
   move-strides up r e = step-strides w ws ls plan g (c .starts) ws′ ls′ o move-advances up r e
 
-  pub move-free : (event : Event) → ((next : Registers) → o ≡ Go next → Occurs w ws ls plan g (compactOf plan next) event)
-      → (r : Progress) → r ≡ freedBy event (settledOf plan o) → Strides w ws ls plan g ws′ ls′ r
-  move-free event occurs r e = free-strides w ws ls plan g (c .starts) ws′ ls′ event o move-advances occurs r e
+  pub move-frees : (event : Event) (next : Registers) → o ≡ Go next → Occurs w ws ls plan g (compactOf plan next) event
+      → (r : Progress) → r ≡ freedBy event (settledOf plan o) → Frees w ws ls plan g event ws′ ls′ r
+  move-frees event next e occurs r u = step-frees w ws ls plan g (c .starts) ws′ ls′ event o move-advances next e occurs r u
 
   -- by the same machine
   pub kept-strides : (r : Progress) → stepOf r ≡ o → PacedBy plan r → Transits g r → Strides w ws ls plan g ws′ ls′ r
-  kept-strides r e p t = record { strode = one (rw e move-advances); paced = p; marks = transits-marks w ws ls plan g r t; single = λ next event i. rw e move-advances }
+  kept-strides r e p t = record { strode = one (rw e move-advances); paced = p; transits = t }
 
 -- a value returns to a frame
 pub returning-returns : {w ws ls : List ℕ} {plan : Plan} {g : Compact} {v top kind : ℕ} {s : Registers} → Returning w ws ls plan g v top kind → s ≡ full g → Returns w ws ls plan s v top kind
@@ -208,6 +191,21 @@ pub promote-occurs : (w ws ls : List ℕ) (plan : Plan) (g : Compact) → (leb (
 unfolding Occurs
 promote-occurs w ws ls plan g due next = strides.promoted due refl
 
+-- A FORK, at a node that is a "both"
+pub fork-stepped : {w ws ls : List ℕ} {plan : Plan} {g : Compact} {seat : Seat} → Calm w ws ls plan g → g .control ≡ Eval (seat .function) (seat .node) (seat .count)
+    → tagAt w (startOf w (seat .function)) (seat .node) ≡ 6 → (ws′ : List ℕ) → length ws′ ≡ length ws → {o : Step} → OpenedBoth ws ws′ ls plan (full g) seat o → Stepped w ws ls plan (full g) ws′ ls o
+unfolding nodeOf
+fork-stepped {w} {ws} {ls} {plan} {g} {seat} c e t ws′ long {o} u =
+    let first = startOf w (seat .function) in
+    let n : nodeAt w first (seat .node) ≡ Both (bAt w first (seat .node)) (cAt w first (seat .node)) = rw t in
+    stepped-both w ws ls plan (full g) (c .starts .ready) (seat .function) (seat .node) (seat .count) e ws′ long o _ _ n u
+
+-- in a free frame
+pub fork-goes : (g : Compact) {ws ws′ ls : List ℕ} {seat : Seat} {o : Step} → Forked ws ws′ ls (full g) seat o → g .depth < length ws / 32
+    → (next : Registers) × (o ≡ Go next) × (next .forks ≡ g .forks + 1) × (next .oldest ≡ g .oldest)
+fork-goes g (Forked.full i q d) h = absurd (omega arith)
+fork-goes g (forks i q d) h = (_, d, refl, refl)
+
 -- A NODE IS EVALUATED, by one step
 module _ {w ws ls : List ℕ} {plan : Plan} {g : Compact} {seat : Seat} {start at tag : ℕ} (t : Evaluating w ws ls plan g seat start at tag) where
   pub site-word : at ≡ startOf w (seat .function) + 4 * seat .node
@@ -226,20 +224,7 @@ module _ {w ws ls : List ℕ} {plan : Plan} {g : Compact} {seat : Seat} {start a
   first = startOf w (seat .function)
 
   pub both-stepped : tag ≡ 6 → (ws′ : List ℕ) → length ws′ ≡ length ws → {o : Step} → OpenedBoth ws ws′ ls plan (full g) seat o → Stepped w ws ls plan (full g) ws′ ls o
-  unfolding nodeOf
-  both-stepped e ws′ long {o} u =
-      let n : nodeAt w first (seat .node) ≡ Both (bAt w first (seat .node)) (cAt w first (seat .node)) = rw (site-tag ∙ e) in
-      stepped-both w ws ls plan (full g) (t .calm .starts .ready) (seat .function) (seat .node) (seat .count) (t .is) ws′ long o _ _ n u
-
-  -- a fork that is promoted at its birth, and one that is not
-  pub both-free : plan .birth ≡ true → {ws′ : List ℕ} {o : Step} → OpenedBoth ws ws′ ls plan (full g) seat o → (next : Registers) → o ≡ Go next
-      → Occurs w ws ls plan g (compactOf plan next) (Fork (g .depth))
-  unfolding Occurs forks-of
-  both-free h (born x (Forked.full i q d)) next e = let no : _≡_ {A = ℕ} 0 1 = cc in absurd (omega arith)
-  both-free h (born x (forks i q d)) next e =
-      let n : next .forks ≡ g .forks + 1 = ap forks-of (sym e ∙ d) in
-      strides.born (t .calm) h n refl
-  both-free h (plain x u) next e = absurd (true≢false (sym h ∙ x))
+  both-stepped e ws′ long u = fork-stepped (t .calm) (t .is) (site-tag ∙ e) ws′ long u
 
   pub both-rises : plan .birth ≡ false → {ws′ : List ℕ} {o : Step} → OpenedBoth ws ws′ ls plan (full g) seat o → Rises (g .transitions) o
   unfolding transitions-of

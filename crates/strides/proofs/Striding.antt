@@ -30,7 +30,7 @@ use Rattle.frames.specs.declared.Seat.{Seat}
 use Rattle.moves.specs.declared.Step.{Step}
 use Rattle.moves.specs.declared.Step.the-variants as step
 use Rattle.moves.specs.Layout.{codeAt, slotOf, slotAt, stackOf, controlOf, runCountsOf, stateOf}
-use Rattle.moves.specs.Ready.{Stands, Controlled, Paid, Stepped, Returns, Framed, Opened, Operand}
+use Rattle.moves.specs.Ready.{Stands, Controlled, Paid, Stepped, Ticks, Returns, Framed, Opened, Operand}
 use Rattle.moves.proofs.Nodes.{start-is, inside, known, tag-is, arithmetic-in, operation-in}
 use Rattle.moves.proofs.Stacks.{length-stack, stack-more, held-more, held-top, same-slots}
 use Rattle.moves.proofs.OldestFork.{oldest-other, oldest-under}
@@ -41,9 +41,10 @@ use Rattle.moves.proofs.Returning.{room, stepped-done}
 use Rattle.moves.proofs.Returning.{top as frame-top, tag-here as frame-tag}
 use Rattle.compact.specs.declared.Compact.{Compact}
 use Rattle.compact.specs.declared.Progress.{Progress}
-use Rattle.compact.specs.declared.Progress.the-variants.{Go, Free, Value, Halt}
-use Rattle.compact.specs.Compact.{full, stepOf, Paced, PacedBy, settledOf, Settles, Transits, laterOf, Roomy}
-use Rattle.strides.specs.Strides.{Many, one, many, Strides, Starts, Calm, Tagged, Evaluating, codeOf, Jump, Jumps, Half, Paired, whole, half, Rebound, Rebounds, Returning, Marks}
+use Rattle.compact.specs.declared.Progress.the-variants.{Go, Free, Paused, Value, Halt}
+use Rattle.compact.specs.Compact.{full, stepOf, Paced, PacedBy, settledOf, Settles, keptBy, Transits, laterOf, Roomy}
+use Rattle.compact.proofs.Keeping.{kept-ticks}
+use Rattle.strides.specs.Strides.{Many, one, many, Strides, Starts, Calm, Tagged, Evaluating, codeOf, Jump, Jumps, Half, Paired, whole, half, Rebound, Rebounds, Returning}
 use Rattle.strides.proofs.Settling.{small, move-advances, move-settles, move-strides, paid-rises, kept-strides, returning-returns, site-tag, site-stands, site-framed}
 
 module _ (w ws ls : List ℕ) (plan : Plan) (g : Compact) (s : Starts w ws ls plan g) where
@@ -74,12 +75,11 @@ module _ (w ws ls : List ℕ) (plan : Plan) (g : Compact) (s : Starts w ws ls pl
   -- the registers then
   many-strides : (to : Control) (d k : ℕ) (ws′ ls′ : List ℕ) (next : Compact) → next ≡ laterOf g to d k → (m : Many w ws ls plan (full g) ws′ ls′ (full (laterOf g to d k)))
       → k ≡ m .more + 1 → Strides w ws ls plan g ws′ ls′ (Go next)
-  unfolding stepOf PacedBy Marks
+  unfolding stepOf PacedBy Transits
   many-strides to d k ws′ ls′ next e m n = rw e (record {
     strode = many (full (laterOf g to d k)) refl m (omega arith);
-    marks = omega arith;
-    single = λ other event i. let no : _≡_ {A = ℕ} 0 1 = cc in absurd (omega arith);
-    paced = record { since = omega (arith, s .paced .since); fuel = s .paced .fuel; calm = s .paced .calm };
+    transits = omega arith;
+    paced = record { since = omega (arith, s .paced .since); fuel = s .paced .fuel; calm = s .paced .calm; exact = s .paced .exact };
   })
 
   -- a node
@@ -183,15 +183,17 @@ module _ (w ws ls : List ℕ) (plan : Plan) (g : Compact) (s : Starts w ws ls pl
         }) refl
 
 -- A STRIDE THAT IS NONE: the variant is not Go
-pub neither : (_≡_ {A = ℕ} 0 1) ⊎ ((_≡_ {A = ℕ} 0 2) ⊎ (_≡_ {A = ℕ} 0 3)) → ⊥
+pub neither : (_≡_ {A = ℕ} 0 1) ⊎ ((_≡_ {A = ℕ} 0 2) ⊎ ((_≡_ {A = ℕ} 0 3) ⊎ (_≡_ {A = ℕ} 0 4))) → ⊥
 neither (inl e) = absurd (omega arith)
 neither (inr (inl e)) = absurd (omega arith)
-neither (inr (inr e)) = absurd (omega arith)
+neither (inr (inr (inl e))) = absurd (omega arith)
+neither (inr (inr (inr e))) = absurd (omega arith)
 
 pub jumps-none : (w ls : List ℕ) (g : Compact) (seat : Seat) (ls′ : List ℕ) (r : Progress) → Jumps w ls g seat ls′ r → ((next : Compact) → r ≡ Go next → ⊥) → ls′ ≡ ls
 unfolding Jumps
 jumps-none w ls g seat ls′ (Go next) j n = absurd (n next refl)
 jumps-none w ls g seat ls′ (Free next event) j n = j
+jumps-none w ls g seat ls′ (Paused p) j n = j
 jumps-none w ls g seat ls′ (Value v) j n = j
 jumps-none w ls g seat ls′ (Halt h) j n = j
 
@@ -211,8 +213,8 @@ module _ (w ws ls : List ℕ) (plan : Plan) (g : Compact) (seat : Seat) (start a
     is = v .tagged;
   }
 
-  pub frame-fits : (ws₁ ls₁ : List ℕ) → ws₁ ≡ ws → ls₁ ≡ ls → Framed ws₁ ls₁ (full g) seat × Paced plan g
-  frame-fits ws₁ ls₁ x y = rw (x, y) (site-framed v, set-out .paced)
+  pub frame-fits : (ws₁ ls₁ : List ℕ) → ws₁ ≡ ws → ls₁ ≡ ls → Framed ws₁ ls₁ (full g) seat × Paced plan g × Paid plan (full g)
+  frame-fits ws₁ ls₁ x y = rw (x, y) (site-framed v, set-out .paced, v .paid)
 
   pub jumps-strides : (ls′ : List ℕ) (r : Progress) (next : Compact) → r ≡ Go next → Jumps w ls g seat ls′ r → Strides w ws ls plan g ws ls′ (Go next)
   unfolding Jumps
@@ -291,8 +293,11 @@ module _ (w ws ls : List ℕ) (plan : Plan) (g : Compact) (c : Calm w ws ls plan
   pub node-few : seat .node < 4000
   node-few = inside w (c .starts .ready .kept .table) site-here .1
 
-  pub evaluating : (tag : ℕ) → getD w (getD starts (seat .function) 0 + 4 * seat .node) 0 ≡ tag → Evaluating w ws ls plan g seat (getD starts (seat .function) 0) (getD starts (seat .function) 0 + 4 * seat .node) tag
-  evaluating tag t = record { calm = c; is = e; place = place-here; word = refl; tagged = t }
+  pub tag-here : getD w (getD starts (seat .function) 0 + 4 * seat .node) 0 ≡ tagAt w (startOf w (seat .function)) (seat .node)
+  tag-here = rw place-here
+
+  pub evaluating : Paid plan (full g) → (tag : ℕ) → getD w (getD starts (seat .function) 0 + 4 * seat .node) 0 ≡ tag → Evaluating w ws ls plan g seat (getD starts (seat .function) 0) (getD starts (seat .function) 0 + 4 * seat .node) tag
+  evaluating h tag t = record { calm = c; is = e; place = place-here; word = refl; tagged = t; paid = h }
 
   pub tag-few : getD w (getD starts (seat .function) 0 + 4 * seat .node) 0 < 7
   tag-few = rw place-here (omega (arith, tag-is w (c .starts .ready .kept .table) site-here, tag-low (nodeAt w (startOf w (seat .function)) (seat .node)) (known w (c .starts .ready .kept .table) site-here)))
@@ -308,6 +313,13 @@ pub paid-strides : (w ws ls : List ℕ) (plan : Plan) (g : Compact) (v top kind 
 paid-strides w ws ls plan g v top kind q low s e ws′ ls′ o m r u =
     let n : Stepped w ws ls plan (full g) ws′ ls′ o = rw e at m in
     move-strides w ws ls plan g (q .calm) ws′ ls′ o n (paid-rises w ws ls plan (full g) v top kind (returning-returns q refl) low ws′ ls′ o n) r u
+
+-- by the same machine
+pub ticks-strides : (w ws ls : List ℕ) (plan : Plan) (g : Compact) (v top kind : ℕ) (q : Returning w ws ls plan g v top kind) (s : Registers) → s ≡ full g
+    → (ws′ ls′ : List ℕ) (o : Step) → Stepped w ws ls plan s ws′ ls′ o × Ticks s o → (r : Progress) → r ≡ keptBy g o → Strides w ws ls plan g ws′ ls′ r
+ticks-strides w ws ls plan g v top kind q s e ws′ ls′ o m r u =
+    let t = kept-ticks (q .calm .starts .paced) e u (m .1) in
+    kept-strides w ws ls plan g (q .calm) ws′ ls′ o (rw e at (m .0)) r (t .0) (t .1) (t .2)
 
 -- A VALUE RETURNS
 module _ (w ws ls : List ℕ) (plan : Plan) (g : Compact) (v top kind : ℕ) (q : Returning w ws ls plan g v top kind) where
@@ -335,5 +347,5 @@ module _ (w ws ls : List ℕ) (plan : Plan) (g : Compact) (v top : ℕ) (q : Ret
 
 -- NO FRAME LEFT
 pub done-strides : (w ws ls : List ℕ) (plan : Plan) (g : Compact) → Calm w ws ls plan g → (v : ℕ) → g .control ≡ Ret v → g .depth ≡ 0 → Strides w ws ls plan g ws ls (Value v)
-unfolding stepOf PacedBy Marks
-done-strides w ws ls plan g c v e d = record { strode = one (move-advances w ws ls plan g c ws ls (step.Value v) (stepped-done w ws ls plan (full g) v e d)); paced = tt; marks = tt; single = λ next event i. let no : _≡_ {A = ℕ} 0 1 = cc in absurd (omega arith) }
+unfolding stepOf PacedBy Transits
+done-strides w ws ls plan g c v e d = record { strode = one (move-advances w ws ls plan g c ws ls (step.Value v) (stepped-done w ws ls plan (full g) v e d)); paced = tt; transits = tt }

@@ -11,7 +11,7 @@ use Rattle.schedule.specs.Machine.{ongoing}
 use Rattle.schedule.specs.Runs.{run}
 use Rattle.schedule.specs.Bounds.{step-by}
 use Rattle.schedule.specs.Stretch.{Leads, Through}
-use Rattle.table.specs.Words.{startOf}
+use Rattle.table.specs.Words.{startOf, tagAt}
 use Rattle.table.specs.WellFormed.{WellFormed}
 use Rattle.frames.specs.Frames.{frameKind, pushed, turned}
 use Rattle.language.specs.Language.{Code, left-operand, language}
@@ -23,13 +23,15 @@ use Rattle.frames.specs.declared.Seat.{Seat}
 use Rattle.moves.specs.declared.Step.{Step}
 use Rattle.moves.specs.declared.Step.the-variants as step
 use Rattle.moves.specs.Layout.{codeAt, controlOf, stateOf}
-use Rattle.moves.specs.Ready.{Stands, Controlled, Kept, Ready, Spared, Advanced}
+use Rattle.moves.specs.Ready.{Stands, Controlled, Paid, Kept, Ready, Spared, Advanced}
 use Rattle.compact.specs.declared.Compact.{Compact}
 use Rattle.compact.specs.declared.Progress.{Progress}
 use Rattle.compact.specs.declared.Event.{Event}
 use Rattle.compact.specs.declared.Event.the-variants.{Fork, Turn, Join}
-use Rattle.compact.specs.declared.Progress.the-variants.{Go, Free, Value, Halt}
-use Rattle.compact.specs.Compact.{full, stepOf, Paced, PacedBy, laterOf, Small, Roomy}
+use Rattle.compact.specs.declared.Progress.the-variants.{Go, Free, Paused, Value, Halt}
+use Rattle.compact.specs.declared.Pause.{Pause}
+use Rattle.compact.specs.declared.Pause.the-variants as pause
+use Rattle.compact.specs.Compact.{full, stepOf, Paced, PacedBy, Transits, laterOf, Small, Roomy}
 use Rattle.operands.specs.Operands.{framesOf}
 
 -- SEVERAL STEPS of the definition, from the state that the words held to the one that they hold
@@ -62,7 +64,7 @@ pub record Returning (w ws ls : List ℕ) (plan : Plan) (g : Compact) (v top kin
   pub depth : g .depth ≡ top + 1
   pub of-kind : frameKind ws (32 * top) ≡ kind
 
--- WHICH FREE MOVE a stride was, by its event. A fork begins where a promotion was due, in the oldest plain fork, or in a new frame, promoted at its
+-- WHICH FREE MOVE is made, by its event. A fork begins where a promotion was due, in the oldest plain fork, or in a new frame, promoted at its
 -- birth; its left graph ends where a value arrives at a promoted frame that awaits its left, and both end where one awaits its right.
 pub data Forks (w ws ls : List ℕ) (plan : Plan) (g next : Compact) (at : ℕ) : Type 0 where
   promoted : (leb (plan .period) (full g .credits .0) && ltb (g .oldest) (g .depth)) ≡ true → at ≡ g .oldest → Forks w ws ls plan g next at
@@ -73,19 +75,39 @@ Occurs w ws ls plan g next (Fork at) = Forks w ws ls plan g next at
 Occurs w ws ls plan g next (Turn at) = (v : ℕ) × Returning w ws ls plan g v at 7
 Occurs w ws ls plan g next (Join at) = (v : ℕ) × (kind : ℕ) × Returning w ws ls plan g v at kind × (8 ≤ kind)
 
--- and where it was none, a transition was made
-unfoldable pub Marks : (w ws ls : List ℕ) (plan : Plan) (g : Compact) → Progress → Type 0
-Marks w ws ls plan g (Go next) = g .transitions < next .transitions
-Marks w ws ls plan g (Free next event) = Occurs w ws ls plan g next event
-Marks w ws ls plan g (Value v) = Unit {0}
-Marks w ws ls plan g (Halt h) = Unit {0}
-
--- A STRIDE by compact registers; a free move is one step
+-- A STRIDE by compact registers: where it goes on, transitions were made
 pub record Strides (w ws ls : List ℕ) (plan : Plan) (g : Compact) (ws′ ls′ : List ℕ) (r : Progress) : Type 0 where
   pub strode : Strode w ws ls plan (full g) ws′ ls′ (stepOf r)
   pub paced : PacedBy plan r
-  pub marks : Marks w ws ls plan g r
-  pub single : (next : Compact) (event : Event) → r ≡ Free next event → Advanced w ws ls plan (full g) ws′ ls′ (stepOf r)
+  pub transits : Transits g r
+
+-- A FREE MOVE by compact registers: it is one step, and goes on
+pub record Frees (w ws ls : List ℕ) (plan : Plan) (g : Compact) (event : Event) (ws′ ls′ : List ℕ) (r : Progress) : Type 0 where
+  pub next : Compact
+  pub is : r ≡ Free next event
+  pub advanced : Advanced w ws ls plan (full g) ws′ ls′ (step.Go (full next))
+  pub paced : Paced plan next
+  pub occurs : Occurs w ws ls plan g next event
+
+-- WHAT A PAUSE AWAITS: the limit is reached; a promotion is due; a fork that is promoted at its birth is evaluated; a value arrives at a promoted fork
+unfoldable pub Awaits : (w ws ls : List ℕ) (plan : Plan) (g : Compact) → Pause → Type 0
+Awaits w ws ls plan g pause.Limit = g .limit ≤ g .transitions
+Awaits w ws ls plan g pause.Promotion = (leb (plan .period) (full g .credits .0) && ltb (g .oldest) (g .depth)) ≡ true
+Awaits w ws ls plan g (pause.Fork seat) =
+    Calm w ws ls plan g × (g .control ≡ Eval (seat .function) (seat .node) (seat .count)) × (tagAt w (startOf w (seat .function)) (seat .node) ≡ 6) × (plan .birth ≡ true)
+Awaits w ws ls plan g (pause.Turn v top) = Returning w ws ls plan g v top 7
+Awaits w ws ls plan g (pause.Join v top kind) = Returning w ws ls plan g v top kind × (8 ≤ kind)
+
+-- A STRIDE OR A PAUSE, which changes nothing
+pub data Passes (w ws ls : List ℕ) (plan : Plan) (g : Compact) (ws′ ls′ : List ℕ) (r : Progress) : Type 0 where
+  made : Strides w ws ls plan g ws′ ls′ r → Passes w ws ls plan g ws′ ls′ r
+  pauses : (p : Pause) → r ≡ Paused p → ws′ ≡ ws → ls′ ≡ ls → Awaits w ws ls plan g p → Passes w ws ls plan g ws′ ls′ r
+
+-- and one that makes no transition: what comes at the limit
+pub record Ends (w ws ls : List ℕ) (plan : Plan) (g : Compact) (r : Progress) : Type 0 where
+  pub passes : Passes w ws ls plan g ws ls r
+  pub resolved : r ≡ Paused pause.Limit → ⊥
+  pub stays : (next : Compact) → r ≡ Go next → ⊥
 
 -- A NODE that is evaluated, at the word `at` of the body that begins at `start`
 pub record Site (w ls : List ℕ) (g : Compact) (seat : Seat) (start at : ℕ) : Type 0 where
@@ -107,6 +129,7 @@ pub record Evaluating (w ws ls : List ℕ) (plan : Plan) (g : Compact) (seat : S
   pub place : start ≡ startOf w (seat .function)
   pub word : at ≡ start + 4 * seat .node
   pub tagged : getD w at 0 ≡ tag
+  pub paid : Paid plan (full g)
 
 abbrev pub codeOf : Seat → ℕ → List ℕ → Code
 codeOf seat p ls = record { function = seat .function; node = p; locals = take (seat .count) ls }
@@ -126,6 +149,7 @@ pub record Jump (w ls : List ℕ) (g : Compact) (seat : Seat) (ls′ : List ℕ)
 unfoldable pub Jumps : (w ls : List ℕ) (g : Compact) (seat : Seat) (ls′ : List ℕ) → Progress → Type 0
 Jumps w ls g seat ls′ (Go next) = Jump w ls g seat ls′ next
 Jumps w ls g seat ls′ (Free next event) = ls′ ≡ ls
+Jumps w ls g seat ls′ (Paused p) = ls′ ≡ ls
 Jumps w ls g seat ls′ (Value v) = ls′ ≡ ls
 Jumps w ls g seat ls′ (Halt h) = ls′ ≡ ls
 
@@ -165,5 +189,6 @@ pub record Rebound (w ws : List ℕ) (g : Compact) (v top : ℕ) (next : Compact
 unfoldable pub Rebounds : (w ws : List ℕ) (g : Compact) (v top : ℕ) → Progress → Type 0
 Rebounds w ws g v top (Go next) = Rebound w ws g v top next
 Rebounds w ws g v top (Free next event) = Unit {0}
+Rebounds w ws g v top (Paused p) = Unit {0}
 Rebounds w ws g v top (Value x) = Unit {0}
 Rebounds w ws g v top (Halt h) = Unit {0}

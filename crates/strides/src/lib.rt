@@ -8,23 +8,25 @@
 use arithmetic::Computed;
 use compact::Compact;
 use compact::Event;
+use compact::Pause;
 use compact::Progress;
 use frames::Seat;
 use moves::Control;
 use moves::Plan;
 use moves::Step;
+use moves::Stopped;
 use schedule::Span;
 ghost use mathlib.Core.Path.{_≡_};
-ghost use mathlib.Core.Bool.{true, cond, _&&_};
+ghost use mathlib.Core.Bool.{cond};
 ghost use Prim.Native.Nat.{_+_, _*_, _/_, _<_, _≤_};
 ghost use lib.ListN.{length, getD};
-ghost use lib.Dec.{ltb, leb, eqb};
+ghost use lib.Dec.{eqb};
 ghost use Rattle.table.specs.Words.{arityAt};
 ghost use Rattle.table.specs.Read.{startsOf};
 ghost use Rattle.moves.specs.Ready.{Paid, Operand};
 ghost use Rattle.compact.specs.Compact.{full, Small};
 ghost use Rattle.operands.specs.Operands.{costAt};
-ghost use Rattle.strides.specs.Strides.{Strides, Starts, Calm, Tagged, Evaluating, Jumps, Paired, Led, Rebounds, Returning};
+ghost use Rattle.strides.specs.Strides.{Strides, Frees, Awaits, Passes, Ends, Starts, Calm, Tagged, Evaluating, Jumps, Paired, Led, Rebounds, Returning};
 
 // An arithmetic whose operands are both simple; the left one has the value x.
 fn whole(
@@ -447,13 +449,13 @@ fn evaluate_call(
     let f = operands::wide(words[at + 1]);
     let arity = table::arity(words, f);
     if arity == 0 {
-        compact::transit(plan, g, seat, Control::Eval(f, 0, 0))
+        Progress::Go(compact::later(g, Control::Eval(f, 0, 0), g.depth, 1))
     } else {
         evaluate_arguments(words, start, at, ws, locals, plan, g, seat, f, arity)
     }
 }
 
-// Evaluates a "both".
+// Evaluates a "both": a plain fork. One that is promoted at its birth takes no transition.
 fn evaluate_both(
     words: &[u32],
     start: usize,
@@ -465,14 +467,13 @@ fn evaluate_both(
     seat: Seat,
 ) -> Progress
     requires { ⌜ Evaluating (now words) (now ws) (now locals) plan g seat start at 6 ⌝ }
-    ensures { λ r. ⌜ Strides (now (words .entry)) (now (ws .entry)) (now (locals .entry)) plan g (now (ws .exit)) (now (locals .entry)) r ⌝ }
+    ensures { λ r. ⌜ Passes (now (words .entry)) (now (ws .entry)) (now (locals .entry)) plan g (now (ws .exit)) (now (locals .entry)) r ⌝ }
 {
-    let step = moves::evaluate_both(ws, locals, plan, compact::expand(g), seat);
-    let next = compact::settle(plan, step);
     if plan.birth {
-        compact::free(next, Event::Fork(g.depth))
+        Progress::Paused(Pause::Fork(seat))
     } else {
-        next
+        let step = moves::evaluate_both(ws, locals, plan, compact::expand(g), seat);
+        compact::settle(plan, step)
     }
 }
 
@@ -492,7 +493,7 @@ fn evaluate_leaf(
     ensures { λ r. ⌜ Strides (now (words .entry)) (now (ws .entry)) (now (locals .entry)) plan g (now (ws .entry)) (now (locals .entry)) r ⌝ }
 {
     let v = operands::leaf(words, at, locals, 0);
-    compact::transit(plan, g, seat, Control::Ret(v))
+    Progress::Go(compact::later(g, Control::Ret(v), g.depth, 1))
 }
 
 // Evaluates a node.
@@ -505,8 +506,8 @@ fn evaluate(
     g: Compact,
     seat: Seat,
 ) -> Progress
-    requires { ⌜ (Calm (now words) (now ws) (now locals) plan g) × (g .control ≡ Control.Eval (seat .function) (seat .node) (seat .count)) × (now starts ≡ startsOf (now words)) ⌝ }
-    ensures { λ r. ⌜ Strides (now (words .entry)) (now (ws .entry)) (now (locals .entry)) plan g (now (ws .exit)) (now (locals .exit)) r ⌝ }
+    requires { ⌜ (Calm (now words) (now ws) (now locals) plan g) × (g .control ≡ Control.Eval (seat .function) (seat .node) (seat .count)) × (now starts ≡ startsOf (now words)) × (Paid plan (full g)) ⌝ }
+    ensures { λ r. ⌜ Passes (now (words .entry)) (now (ws .entry)) (now (locals .entry)) plan g (now (ws .exit)) (now (locals .exit)) r ⌝ }
 {
     let f = seat.function;
     let start = starts[f];
@@ -574,7 +575,7 @@ fn ret_left(
             v,
             top,
         );
-        return compact::settle(plan, single);
+        return compact::keep(g, single);
     };
     Progress::Go(next)
 }
@@ -597,68 +598,34 @@ fn ret_paid(
     let s = compact::expand(g);
     match kind {
         0 => ret_left(words, starts, ws, locals, plan, g, v, top),
-        1 => compact::settle(
-            plan,
+        1 => compact::keep(
+            g,
             moves::ret_right_operand(words, starts, ws, locals, plan, s, v, top),
         ),
-        2 => compact::settle(
-            plan,
+        2 => compact::keep(
+            g,
             moves::ret_condition(words, starts, ws, locals, plan, s, v, top),
         ),
-        3 => compact::settle(
-            plan,
+        3 => compact::keep(
+            g,
             moves::ret_binding(words, starts, ws, locals, plan, s, v, top),
         ),
-        4 => compact::settle(
-            plan,
+        4 => compact::keep(
+            g,
             moves::ret_argument(words, starts, ws, locals, plan, s, v, top),
         ),
         5 => compact::settle(
             plan,
             moves::ret_plain_left(words, starts, ws, locals, plan, s, v, top),
         ),
-        _ => compact::settle(
-            plan,
+        _ => compact::keep(
+            g,
             moves::ret_plain_right(words, starts, ws, locals, plan, s, v, top),
         ),
     }
 }
 
-// A value arrives at a promoted fork, with no transition.
-fn arrive(
-    words: &[u32],
-    starts: &[usize],
-    ws: &mut [u64],
-    locals: &mut [u64],
-    plan: Plan,
-    g: Compact,
-    v: u64,
-    top: usize,
-    kind: u64,
-) -> Progress
-    requires { ⌜ (Returning (now words) (now ws) (now locals) plan g v top kind) × (7 ≤ kind) × (now starts ≡ startsOf (now words)) ⌝ }
-    ensures { λ r. ⌜ Strides (now (words .entry)) (now (ws .entry)) (now (locals .entry)) plan g (now (ws .exit)) (now (locals .exit)) r ⌝ }
-{
-    let step = moves::arrive(
-        words,
-        starts,
-        ws,
-        locals,
-        plan,
-        compact::expand(g),
-        v,
-        top,
-        kind,
-    );
-    let next = compact::settle(plan, step);
-    if kind == moves::PROMOTED_LEFT {
-        compact::free(next, Event::Turn(top))
-    } else {
-        compact::free(next, Event::Join(top))
-    }
-}
-
-// A value returns to the newest frame, or ends the run.
+// A value returns to the newest frame, or ends the run. At a promoted fork it arrives with no transition.
 fn ret(
     words: &[u32],
     starts: &[usize],
@@ -668,8 +635,8 @@ fn ret(
     g: Compact,
     v: u64,
 ) -> Progress
-    requires { ⌜ (Calm (now words) (now ws) (now locals) plan g) × (g .control ≡ Control.Ret v) × (now starts ≡ startsOf (now words)) ⌝ }
-    ensures { λ r. ⌜ Strides (now (words .entry)) (now (ws .entry)) (now (locals .entry)) plan g (now (ws .exit)) (now (locals .exit)) r ⌝ }
+    requires { ⌜ (Calm (now words) (now ws) (now locals) plan g) × (g .control ≡ Control.Ret v) × (now starts ≡ startsOf (now words)) × (Paid plan (full g)) ⌝ }
+    ensures { λ r. ⌜ Passes (now (words .entry)) (now (ws .entry)) (now (locals .entry)) plan g (now (ws .exit)) (now (locals .exit)) r ⌝ }
 {
     let depth = g.depth;
     if depth == 0 {
@@ -677,30 +644,17 @@ fn ret(
     } else {
         let top = depth - 1;
         let kind = moves::kind_at(ws, top);
-        let fuel = plan.fuel;
-        if moves::PROMOTED_LEFT <= kind {
-            arrive(words, starts, ws, locals, plan, g, v, top, kind)
-        } else if fuel.allows(g.transitions) {
+        if kind < moves::PROMOTED_LEFT {
             ret_paid(words, starts, ws, locals, plan, g, v, top, kind)
+        } else if kind == moves::PROMOTED_LEFT {
+            Progress::Paused(Pause::Turn(v, top))
         } else {
-            let seat = frames::seat_of(ws, frames::WORDS * top);
-            let step = moves::halt(20, seat.function, seat.node);
-            compact::settle(plan, step)
+            Progress::Paused(Pause::Join(v, top, kind))
         }
     }
 }
 
-// Promotes the oldest plain fork.
-fn promote(words: &[u32], ws: &mut [u64], locals: &[u64], plan: Plan, g: Compact) -> Progress
-    requires { ⌜ (Starts (now words) (now ws) (now locals) plan g) × ((leb (plan .period) (full g .credits .0) && ltb (g .oldest) (g .depth)) ≡ true) ⌝ }
-    ensures { λ r. ⌜ Strides (now (words .entry)) (now (ws .entry)) (now (locals .entry)) plan g (now (ws .exit)) (now (locals .entry)) r ⌝ }
-{
-    let s = moves::promote(ws, compact::expand(g));
-    let next = compact::settle(plan, Step::Go(s));
-    compact::free(next, Event::Fork(g.oldest))
-}
-
-// One step, or several at once: a promotion that is due, or else any other.
+// One step that is a transition, or several at once; a pause where the limit is reached or the next move is free.
 pub fn stride(
     words: &[u32],
     starts: &[usize],
@@ -710,10 +664,10 @@ pub fn stride(
     g: Compact,
 ) -> Progress
     requires { ⌜ (Starts (now words) (now ws) (now locals) plan g) × (now starts ≡ startsOf (now words)) ⌝ }
-    ensures { λ r. ⌜ Strides (now (words .entry)) (now (ws .entry)) (now (locals .entry)) plan g (now (ws .exit)) (now (locals .exit)) r ⌝ }
+    ensures { λ r. ⌜ Passes (now (words .entry)) (now (ws .entry)) (now (locals .entry)) plan g (now (ws .exit)) (now (locals .exit)) r ⌝ }
 {
-    if compact::due(plan, g) {
-        promote(words, ws, locals, plan, g)
+    if g.limit <= g.transitions {
+        Progress::Paused(Pause::Limit)
     } else {
         let control = g.control;
         match control {
@@ -732,5 +686,199 @@ pub fn stride(
             ),
             Control::Ret(v) => ret(words, starts, ws, locals, plan, g, v),
         }
+    }
+}
+
+// Promotes the oldest plain fork.
+pub fn promote(words: &[u32], ws: &mut [u64], locals: &[u64], plan: Plan, g: Compact) -> Progress
+    requires { ⌜ (Starts (now words) (now ws) (now locals) plan g) × (Awaits (now words) (now ws) (now locals) plan g Pause.Promotion) ⌝ }
+    ensures { λ r. ⌜ Frees (now (words .entry)) (now (ws .entry)) (now (locals .entry)) plan g (Event.Fork (g .oldest)) (now (ws .exit)) (now (locals .entry)) r ⌝ }
+{
+    let s = moves::promote(ws, compact::expand(g));
+    let next = compact::settle(plan, Step::Go(s));
+    compact::free(next, Event::Fork(g.oldest))
+}
+
+// Opens a fork that is promoted at its birth, in a free frame.
+pub fn fork(
+    words: &[u32],
+    ws: &mut [u64],
+    locals: &[u64],
+    plan: Plan,
+    g: Compact,
+    seat: Seat,
+) -> Progress
+    requires { ⌜ (Awaits (now words) (now ws) (now locals) plan g (Pause.Fork seat)) × (g .depth < length (now ws) / 32) ⌝ }
+    ensures { λ r. ⌜ Frees (now (words .entry)) (now (ws .entry)) (now (locals .entry)) plan g (Event.Fork (g .depth)) (now (ws .exit)) (now (locals .entry)) r ⌝ }
+{
+    let step = moves::fork(ws, locals, compact::expand(g), seat);
+    let next = compact::restart(plan, step);
+    compact::free(next, Event::Fork(g.depth))
+}
+
+// Where no frame is free for it.
+pub fn crowded(
+    words: &[u32],
+    ws: &[u64],
+    locals: &[u64],
+    plan: Plan,
+    g: Compact,
+    seat: Seat,
+) -> Progress
+    requires { ⌜ (Awaits (now words) (now ws) (now locals) plan g (Pause.Fork seat)) × (length (now ws) / 32 ≤ g .depth) ⌝ }
+    ensures { λ r. ⌜ (Strides (now (words .entry)) (now (ws .entry)) (now (locals .entry)) plan g (now (ws .entry)) (now (locals .entry)) r) × ((next : Compact) → r ≡ Progress.Go next → ⊥) ⌝ }
+{
+    Progress::Halt(Stopped {
+        number: 21,
+        function: seat.function,
+        node: seat.node,
+    })
+}
+
+// A left value arrives at a promoted fork.
+pub fn turn(
+    words: &[u32],
+    starts: &[usize],
+    ws: &mut [u64],
+    locals: &mut [u64],
+    plan: Plan,
+    g: Compact,
+    v: u64,
+    top: usize,
+) -> Progress
+    requires { ⌜ (Awaits (now words) (now ws) (now locals) plan g (Pause.Turn v top)) × (now starts ≡ startsOf (now words)) ⌝ }
+    ensures { λ r. ⌜ Frees (now (words .entry)) (now (ws .entry)) (now (locals .entry)) plan g (Event.Turn top) (now (ws .exit)) (now (locals .exit)) r ⌝ }
+{
+    let step = moves::turned(words, starts, ws, locals, plan, compact::expand(g), v, top);
+    let next = compact::restart(plan, step);
+    compact::free(next, Event::Turn(top))
+}
+
+// A right value arrives there.
+pub fn join(
+    words: &[u32],
+    starts: &[usize],
+    ws: &[u64],
+    locals: &mut [u64],
+    plan: Plan,
+    g: Compact,
+    v: u64,
+    top: usize,
+    kind: u64,
+) -> Progress
+    requires { ⌜ (Awaits (now words) (now ws) (now locals) plan g (Pause.Join v top kind)) × (now starts ≡ startsOf (now words)) ⌝ }
+    ensures { λ r. ⌜ Frees (now (words .entry)) (now (ws .entry)) (now (locals .entry)) plan g (Event.Join top) (now (ws .entry)) (now (locals .exit)) r ⌝ }
+{
+    let step = moves::joined(
+        words,
+        starts,
+        ws,
+        locals,
+        plan,
+        compact::expand(g),
+        v,
+        top,
+        kind,
+    );
+    let next = compact::restart(plan, step);
+    compact::free(next, Event::Join(top))
+}
+
+// Stop 20, the fuel is spent.
+fn spent(seat: Seat) -> Progress
+    ensures { λ r. ⌜ r ≡ Progress.Halt (record { number = 20; function = seat .function; node = seat .node }) ⌝ }
+{
+    Progress::Halt(Stopped {
+        number: 20,
+        function: seat.function,
+        node: seat.node,
+    })
+}
+
+// A node is evaluated with the fuel spent: only a fork that is promoted at its birth can go on.
+fn spent_node(
+    words: &[u32],
+    starts: &[usize],
+    ws: &[u64],
+    locals: &[u64],
+    plan: Plan,
+    g: Compact,
+    seat: Seat,
+) -> Progress
+    requires { ⌜ (Calm (now words) (now ws) (now locals) plan g) × (g .control ≡ Control.Eval (seat .function) (seat .node) (seat .count)) × (now starts ≡ startsOf (now words)) × (plan .fuel .0 ≤ g .transitions) ⌝ }
+    ensures { λ r. ⌜ Ends (now (words .entry)) (now (ws .entry)) (now (locals .entry)) plan g r ⌝ }
+{
+    let f = seat.function;
+    let start = starts[f];
+    let tag = words[start + 4 * seat.node];
+    if tag == 6 {
+        if plan.birth {
+            Progress::Paused(Pause::Fork(seat))
+        } else {
+            spent(seat)
+        }
+    } else {
+        spent(seat)
+    }
+}
+
+// A value returns with the fuel spent: it ends the run, or arrives at a promoted fork.
+fn spent_value(
+    words: &[u32],
+    ws: &[u64],
+    locals: &[u64],
+    plan: Plan,
+    g: Compact,
+    v: u64,
+) -> Progress
+    requires { ⌜ (Calm (now words) (now ws) (now locals) plan g) × (g .control ≡ Control.Ret v) × (plan .fuel .0 ≤ g .transitions) ⌝ }
+    ensures { λ r. ⌜ Ends (now (words .entry)) (now (ws .entry)) (now (locals .entry)) plan g r ⌝ }
+{
+    let depth = g.depth;
+    if depth == 0 {
+        return Progress::Value(v);
+    }
+    let top = depth - 1;
+    let kind = moves::kind_at(ws, top);
+    if kind < moves::PROMOTED_LEFT {
+        return spent(frames::seat_of(ws, frames::WORDS * top));
+    }
+    if kind == moves::PROMOTED_LEFT {
+        return Progress::Paused(Pause::Turn(v, top));
+    }
+    Progress::Paused(Pause::Join(v, top, kind))
+}
+
+// At the limit: a promotion that is due, or what comes where the fuel is spent.
+pub fn at_limit(
+    words: &[u32],
+    starts: &[usize],
+    ws: &[u64],
+    locals: &[u64],
+    plan: Plan,
+    g: Compact,
+) -> Progress
+    requires { ⌜ (Starts (now words) (now ws) (now locals) plan g) × (now starts ≡ startsOf (now words)) × (g .limit ≤ g .transitions) ⌝ }
+    ensures { λ r. ⌜ Ends (now (words .entry)) (now (ws .entry)) (now (locals .entry)) plan g r ⌝ }
+{
+    if compact::due(plan, g) {
+        return Progress::Paused(Pause::Promotion);
+    }
+    let control = g.control;
+    match control {
+        Control::Eval(function, node, count) => spent_node(
+            words,
+            starts,
+            ws,
+            locals,
+            plan,
+            g,
+            Seat {
+                function,
+                node,
+                count,
+            },
+        ),
+        Control::Ret(v) => spent_value(words, ws, locals, plan, g, v),
     }
 }

@@ -16,6 +16,9 @@ enum-known-progress-3 c = search needs
 enum-known-progress-4 : tie.Need-enum-known-progress-4
 enum-known-progress-4 c = search needs
 
+enum-known-progress-5 : tie.Need-enum-known-progress-5
+enum-known-progress-5 c = search needs
+
 returns : tie.Need-returns
 unfolding freedBy
 returns c = rw (c .before .progress .given .1)
@@ -32,6 +35,10 @@ returns-4 : tie.Need-returns-4
 unfolding freedBy
 returns-4 c = rw (c .before .progress4 .given .1)
 
+returns-5 : tie.Need-returns-5
+unfolding freedBy
+returns-5 c = rw (c .before .progress5 .given .1)
+
 pub free-spec : {M : Type 1} → statement M
 free-spec =
     tie.close
@@ -40,7 +47,9 @@ free-spec =
     enum-known-progress-2
     enum-known-progress-3
     enum-known-progress-4
+    enum-known-progress-5
     returns
     returns-2
     returns-3
-    returns-4)
+    returns-4
+    returns-5)

@@ -8,7 +8,7 @@ expand-requires : tie.Need-expand-requires
 expand-requires c κs = search needs
 
 open-requires : tie.Need-open-requires
-open-requires c κs = rw (c .expand .ensures) (c .before .before .before .before .pre .0)
+open-requires c κs = rw (c .expand .ensures) (c .before .before .before .before .pre .0, c .before .before .before .before .pre .2)
 
 keep-requires : tie.Need-keep-requires
 keep-requires c κs = search needs

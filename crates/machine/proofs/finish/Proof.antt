@@ -7,7 +7,7 @@ expand-requires : tie.Need-expand-requires
 expand-requires c κs = search needs
 
 tell-requires : tie.Need-tell-requires
-tell-requires c κs = rw (c .expand .ensures) (c .before .before .pre .2)
+tell-requires c κs = (rw (c .expand .ensures) (c .before .before .pre .2), c .before .before .pre .4)
 
 sub-finish : tie.Need-sub-finish
 sub-finish c = search needs

@@ -1,5 +1,6 @@
 -- `moves::joined` meets its contract, by the laws of Returning.
 use Rattle.moves.proofs.Returning.{sitting, both-few, join-fits, stepped-join}
+use Rattle.moves.proofs.Ticking.{restarts-go}
 use borrow.Author.Needs.{needs}
 use Rattle.moves.proofs.joined.Statement.{statement}
 use Rattle.moves.proofs.joined.Tie as tie
@@ -26,7 +27,7 @@ same-length : tie.Need-same-length
 same-length c = search needs
 
 returns : tie.Need-returns
-returns c = let entry = c .before .before .before .before .before .before .before .before .before .before .before .before .before in stepped-join (entry .args .words .now) (entry .args .ws .now) (entry .args .locals .now) (entry .args .plan) (entry .args .s) (entry .args .v) (entry .args .top) (entry .args .kind) (entry .pre .0) (entry .pre .1) _ _ (c .before .before .before .body .ensures) _ (rw (c .before .before .before .before .before .before .before .before .before-of .ensures, c .before .before .before .before .before .before .before .left-of .ensures) at (c .before .before .before .before .before .joined .ensures)) _ (c .restart .ensures)
+returns c = let entry = c .before .before .before .before .before .before .before .before .before .before .before .before .before in (stepped-join (entry .args .words .now) (entry .args .ws .now) (entry .args .locals .now) (entry .args .plan) (entry .args .s) (entry .args .v) (entry .args .top) (entry .args .kind) (entry .pre .0) (entry .pre .1) _ _ (c .before .before .before .body .ensures) _ (rw (c .before .before .before .before .before .before .before .before .before-of .ensures, c .before .before .before .before .before .before .before .left-of .ensures) at (c .before .before .before .before .before .joined .ensures)) _ (c .restart .ensures), restarts-go (entry .args .s) _ _ _ _ _ (c .restart .ensures))
 
 pub joined-spec : {M : Type 1} → statement M
 joined-spec =

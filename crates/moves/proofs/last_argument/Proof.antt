@@ -1,6 +1,7 @@
--- `moves::last_argument` meets its contract, by the laws of Returning, Steps.
+-- `moves::last_argument` meets its contract, by the laws of Returning, Steps, Ticking.
 use Rattle.moves.proofs.Returning.{room, few-here, stepped-last-argument}
 use Rattle.moves.proofs.Steps.{bounds}
+use Rattle.moves.proofs.Ticking.{ticks-go}
 use native.Mathlib.Omega.{arith}
 use borrow.Author.Needs.{needs}
 use Rattle.moves.proofs.last_argument.Statement.{statement}
@@ -25,7 +26,7 @@ same-length : tie.Need-same-length
 same-length c = search needs
 
 returns : tie.Need-returns
-returns c = let entry = c .before .before .before .before .before .before .before .before .before .before .before .before in stepped-last-argument (entry .args .words .now) (entry .args .ws .now) (entry .args .locals .now) (entry .args .plan) (entry .args .s) (entry .args .v) (entry .args .top) (entry .pre .0) (entry .args .n) (entry .pre .2) (entry .pre .1) (entry .args .g) (entry .pre .4) (entry .pre .3) _ _ (c .before .before .before .before .before .before .before .load-arguments .ensures) (c .before .before .before .append .ensures) _ (c .tick .ensures)
+returns c = let entry = c .before .before .before .before .before .before .before .before .before .before .before .before in (stepped-last-argument (entry .args .words .now) (entry .args .ws .now) (entry .args .locals .now) (entry .args .plan) (entry .args .s) (entry .args .v) (entry .args .top) (entry .pre .0) (entry .args .n) (entry .pre .2) (entry .pre .1) (entry .args .g) (entry .pre .4) (entry .pre .3) _ _ (c .before .before .before .before .before .before .before .load-arguments .ensures) (c .before .before .before .append .ensures) _ (c .tick .ensures), ticks-go (entry .args .s) _ _ _ (c .tick .ensures))
 
 pub last-argument-spec : {M : Type 1} → statement M
 last-argument-spec =

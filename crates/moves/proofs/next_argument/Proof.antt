@@ -1,6 +1,7 @@
--- `moves::next_argument` meets its contract, by the laws of Returning, Steps.
+-- `moves::next_argument` meets its contract, by the laws of Returning, Steps, Ticking.
 use Rattle.moves.proofs.Returning.{room, few-here, sitting-collected, stepped-next-argument}
 use Rattle.moves.proofs.Steps.{bounds}
+use Rattle.moves.proofs.Ticking.{ticks-go}
 use native.Mathlib.Omega.{arith}
 use borrow.Author.Needs.{needs}
 use Rattle.moves.proofs.next_argument.Statement.{statement}
@@ -31,7 +32,7 @@ same-length-2 : tie.Need-same-length-2
 same-length-2 c = search needs
 
 returns : tie.Need-returns
-returns c = let entry = c .before .before .before .before .before .before .before .before .before .before .before .before .before .before in stepped-next-argument (entry .args .words .now) (entry .args .ws .now) (entry .args .locals .now) (entry .args .plan) (entry .args .s) (entry .args .v) (entry .args .top) (entry .pre .0) (entry .args .n) (entry .pre .3) (entry .pre .1) (entry .pre .4) _ _ _ (c .before .before .before .before .before .before .before .before .collect .kept .0) (c .before .before .before .before .before .before .before .before .collect .ensures) (c .before .before .before .child .ensures) _ (c .tick .ensures)
+returns c = let entry = c .before .before .before .before .before .before .before .before .before .before .before .before .before .before in (stepped-next-argument (entry .args .words .now) (entry .args .ws .now) (entry .args .locals .now) (entry .args .plan) (entry .args .s) (entry .args .v) (entry .args .top) (entry .pre .0) (entry .args .n) (entry .pre .3) (entry .pre .1) (entry .pre .4) _ _ _ (c .before .before .before .before .before .before .before .before .collect .kept .0) (c .before .before .before .before .before .before .before .before .collect .ensures) (c .before .before .before .child .ensures) _ (c .tick .ensures), ticks-go (entry .args .s) _ _ _ (c .tick .ensures))
 
 pub next-argument-spec : {M : Type 1} → statement M
 next-argument-spec =

@@ -1,7 +1,8 @@
--- `moves::ret_binding` meets its contract, by the laws of Returning, Steps.
+-- `moves::ret_binding` meets its contract, by the laws of Returning, Steps, Ticking.
 use Rattle.frames.specs.Frames.{frameCount}
 use Rattle.moves.proofs.Returning.{sitting, binding-few, stepped-binding}
 use Rattle.moves.proofs.Steps.{bounds}
+use Rattle.moves.proofs.Ticking.{ticks-go}
 use Rattle.frames.specs.declared.Seat.{Seat}
 use Prim.Native.Nat.{_*_}
 use native.Mathlib.Omega.{arith}
@@ -29,7 +30,7 @@ same-length : tie.Need-same-length
 same-length c = search needs
 
 returns : tie.Need-returns
-returns c = let entry = c .before .before .before .before .before .before .before .before .before .before .before .before .before in stepped-binding (entry .args .words .now) (entry .args .ws .now) (entry .args .locals .now) (entry .args .plan) (entry .args .s) (entry .args .v) (entry .args .top) (entry .pre .0) (entry .pre .1) _ _ _ (c .before .before .before .before .before .before .before .child .ensures) (c .before .before .before .append .ensures) _ (c .tick .ensures)
+returns c = let entry = c .before .before .before .before .before .before .before .before .before .before .before .before .before in (stepped-binding (entry .args .words .now) (entry .args .ws .now) (entry .args .locals .now) (entry .args .plan) (entry .args .s) (entry .args .v) (entry .args .top) (entry .pre .0) (entry .pre .1) _ _ _ (c .before .before .before .before .before .before .before .child .ensures) (c .before .before .before .append .ensures) _ (c .tick .ensures), ticks-go (entry .args .s) _ _ _ (c .tick .ensures))
 
 pub ret-binding-spec : {M : Type 1} → statement M
 ret-binding-spec =

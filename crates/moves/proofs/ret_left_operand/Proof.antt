@@ -1,6 +1,7 @@
--- `moves::ret_left_operand` meets its contract, by the laws of Returning, Steps.
+-- `moves::ret_left_operand` meets its contract, by the laws of Returning, Steps, Ticking.
 use Rattle.moves.proofs.Returning.{room, sitting-turned, stepped-left-operand}
 use Rattle.moves.proofs.Steps.{bounds}
+use Rattle.moves.proofs.Ticking.{ticks-go}
 use borrow.Author.Needs.{needs}
 use Rattle.moves.proofs.ret_left_operand.Statement.{statement}
 use Rattle.moves.proofs.ret_left_operand.Tie as tie
@@ -30,7 +31,7 @@ same-length-2 : tie.Need-same-length-2
 same-length-2 c = search needs
 
 returns : tie.Need-returns
-returns c = let entry = c .before .before .before .before .before .before .before .before .before .before .before .before .before .before .before in stepped-left-operand (entry .args .words .now) (entry .args .ws .now) (entry .args .locals .now) (entry .args .plan) (entry .args .s) (entry .args .v) (entry .args .top) (entry .pre .0) (entry .pre .1) _ _ _ (c .before .before .before .before .before .before .before .before .turn .kept .0) (rw (c .before .before .before .before .before .before .before .before .before .none .ensures) at (c .before .before .before .before .before .before .before .before .turn .ensures)) (c .before .before .before .child .ensures) _ (c .tick .ensures)
+returns c = let entry = c .before .before .before .before .before .before .before .before .before .before .before .before .before .before .before in (stepped-left-operand (entry .args .words .now) (entry .args .ws .now) (entry .args .locals .now) (entry .args .plan) (entry .args .s) (entry .args .v) (entry .args .top) (entry .pre .0) (entry .pre .1) _ _ _ (c .before .before .before .before .before .before .before .before .turn .kept .0) (rw (c .before .before .before .before .before .before .before .before .before .none .ensures) at (c .before .before .before .before .before .before .before .before .turn .ensures)) (c .before .before .before .child .ensures) _ (c .tick .ensures), ticks-go (entry .args .s) _ _ _ (c .tick .ensures))
 
 pub ret-left-operand-spec : {M : Type 1} → statement M
 ret-left-operand-spec =

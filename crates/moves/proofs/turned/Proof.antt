@@ -1,5 +1,6 @@
 -- `moves::turned` meets its contract, by the laws of Returning.
 use Rattle.moves.proofs.Returning.{room, sitting-turned, stepped-turn}
+use Rattle.moves.proofs.Ticking.{restarts-go}
 use borrow.Author.Needs.{needs}
 use Rattle.moves.proofs.turned.Statement.{statement}
 use Rattle.moves.proofs.turned.Tie as tie
@@ -29,7 +30,7 @@ same-length-2 : tie.Need-same-length-2
 same-length-2 c = search needs
 
 returns : tie.Need-returns
-returns c = let entry = c .before .before .before .before .before .before .before .before .before .before .before .before .before .before .before .before in stepped-turn (entry .args .words .now) (entry .args .ws .now) (entry .args .locals .now) (entry .args .plan) (entry .args .s) (entry .args .v) (entry .args .top) (entry .pre .0) _ _ _ (c .before .before .before .before .before .before .before .before .before .turn .kept .0) (c .before .before .before .before .before .before .before .before .before .turn .ensures) (c .before .before .before .before .child .ensures) _ (rw (c .before .none .ensures) at (c .restart .ensures))
+returns c = let entry = c .before .before .before .before .before .before .before .before .before .before .before .before .before .before .before .before in (stepped-turn (entry .args .words .now) (entry .args .ws .now) (entry .args .locals .now) (entry .args .plan) (entry .args .s) (entry .args .v) (entry .args .top) (entry .pre .0) _ _ _ (c .before .before .before .before .before .before .before .before .before .turn .kept .0) (c .before .before .before .before .before .before .before .before .before .turn .ensures) (c .before .before .before .before .child .ensures) _ (rw (c .before .none .ensures) at (c .restart .ensures)), restarts-go (entry .args .s) _ _ _ _ _ (c .restart .ensures))
 
 pub turned-spec : {M : Type 1} → statement M
 turned-spec =

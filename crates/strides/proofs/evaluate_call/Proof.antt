@@ -1,5 +1,8 @@
 -- `strides::evaluate_call` meets its contract, by the laws of Calls.
-use mathlib.Core.Path.{sym, _∙_}
+use mathlib.Core.Path.{sym, ap, _∙_}
+use Rattle.compact.specs.declared.Progress.the-variants.{Go}
+use Rattle.compact.proofs.Keeping.{later-transits}
+use Rattle.strides.proofs.Settling.{small}
 use native.Mathlib.Omega.{arith}
 use Rattle.strides.proofs.Forms.{here-inside}
 use Rattle.strides.proofs.Calls.{callee-inside, tagged-here, call-enters}
@@ -22,14 +25,15 @@ wide-requires c κs = search needs
 arity-requires : tie.Need-arity-requires
 arity-requires c κs = callee-inside (tagged-here (c .before .before .before .before .before .pre)) (c .wide .ensures)
 
-transit-requires : tie.Need-transit-requires
-transit-requires c κs = search needs
+later-requires : tie.Need-later-requires
+later-requires c κs = let s = c .before .before .before .before .before .before .before in (small (s .args .words .now) (s .args .ws .now) (s .args .locals .now) (s .args .plan) (s .args .g) (s .pre .calm .starts), omega arith)
 
 evaluate-arguments-requires : tie.Need-evaluate-arguments-requires
 evaluate-arguments-requires c κs = search needs
 
 returns : tie.Need-returns
-returns c = call-enters (c .before .before .before .before .before .before .before .before .pre) (c .before .before .before .wide .ensures) (sym (c .before .before .arity .ensures) ∙ c .before .if1 .taken) (c .transit .result) (c .transit .ensures)
+returns c = call-enters (c .before .before .before .before .before .before .before .before .pre) (c .before .before .before .wide .ensures) (sym (c .before .before .arity .ensures) ∙ c .before .if1 .taken) _
+    (let s = c .before .before .before .before .before .before .before .before in later-transits (s .args .plan) (s .args .g) (s .pre .calm .starts .paced) (s .pre .paid) (s .args .seat) _ _ (ap Go (c .later .ensures)))
 
 same-length : tie.Need-same-length
 same-length c = search needs
@@ -49,7 +53,7 @@ evaluate-call-spec =
     shared-slice-read-wide
     wide-requires
     arity-requires
-    transit-requires
+    later-requires
     evaluate-arguments-requires
     returns
     same-length

@@ -1,7 +1,6 @@
 -- `strides::ret_left` meets its contract, by the laws of Striding, Settling.
 use mathlib.Core.Path.{refl}
-use native.Mathlib.Omega.{arith}
-use Rattle.strides.proofs.Striding.{settles, paid-strides, asked, operand, rebounds-strides}
+use Rattle.strides.proofs.Striding.{ticks-strides, asked, operand, rebounds-strides}
 use Rattle.strides.proofs.Settling.{small}
 use borrow.Author.Needs.{needs}
 use Rattle.strides.proofs.ret_left.Statement.{statement}
@@ -19,8 +18,8 @@ expand-requires c κs = search needs
 ret-left-operand-requires : tie.Need-ret-left-operand-requires
 ret-left-operand-requires c κs = let p = c .before .before .before .before .before .before .before .before .before .before in asked (p .args .words .now) (p .args .ws .now) (p .args .locals .now) (p .args .plan) (p .args .g) (p .args .v) (p .args .top) 0 (p .pre .0) _ (c .expand .ensures) 0 refl (p .pre .1) _ (p .pre .2)
 
-settle-requires : tie.Need-settle-requires
-settle-requires c κs = let p = c .before .before .before .before .before .before .before .before .before .before .before .before .before .before .before in settles (p .args .words .now) (p .args .ws .now) (p .args .locals .now) (p .args .plan) (p .args .g) (p .pre .0 .calm) _ (c .before .before .before .before .before .expand .ensures) _ _ _ (c .before .before .before .before .ret-left-operand .ensures)
+keep-requires : tie.Need-keep-requires
+keep-requires c κs = search needs
 
 same-length : tie.Need-same-length
 same-length c = search needs
@@ -29,7 +28,7 @@ same-length-2 : tie.Need-same-length-2
 same-length-2 c = search needs
 
 returns : tie.Need-returns
-returns c = let p = c .before .before .before .before .before .before .before .before .before .before .before .before .before .before .before .before in paid-strides (p .args .words .now) (p .args .ws .now) (p .args .locals .now) (p .args .plan) (p .args .g) (p .args .v) (p .args .top) 0 (p .pre .0) (omega arith) _ (c .before .before .before .before .before .before .expand .ensures) _ _ _ (c .before .before .before .before .before .ret-left-operand .ensures) _ (c .settle .ensures)
+returns c = let p = c .before .before .before .before .before .before .before .before .before .before .before .before .before .before .before .before in ticks-strides (p .args .words .now) (p .args .ws .now) (p .args .locals .now) (p .args .plan) (p .args .g) (p .args .v) (p .args .top) 0 (p .pre .0) _ (c .before .before .before .before .before .before .expand .ensures) _ _ _ (c .before .before .before .before .before .ret-left-operand .ensures) _ (c .keep .ensures)
 
 same-length-3 : tie.Need-same-length-3
 same-length-3 c = search needs
@@ -45,7 +44,7 @@ ret-left-spec =
     enum-known-step
     expand-requires
     ret-left-operand-requires
-    settle-requires
+    keep-requires
     same-length
     same-length-2
     returns
