@@ -18,9 +18,9 @@ use Rattle.schedule.specs.Runs.{run}
 use Rattle.schedule.specs.Bounds.{step-by}
 use Rattle.schedule.proofs.Moves.{Move, goes-on, opens, closes, keeps-frame, forks, turns, joins, forks-freely, turns-freely, joins-freely}
 use Rattle.graph.specs.Words.{stretch, head, fork-words, pending, parts, written}
-use Rattle.graph.specs.Writing.{opened, buffer, Placed, Holds, count-ended, lent-ended, lent-forked, lent-turned, lent-joined, Tracks, TracksState}
+use Rattle.graph.specs.Writing.{opened, buffer, Placed, Holds, count-ended, stretched, lent-ended, lent-forked, lent-filled, Tracks, TracksState}
 use Rattle.graph.proofs.Runs.{made, StepBy, promoting, moving, step-by-view, first-step, no-steps, risen-at-most, risen-first}
-use Rattle.graph.proofs.Holding.{holds-set, holds-all, counted-end, counted-few, holds-end, length-end, holds-head, left-filled, right-filled}
+use Rattle.graph.proofs.Holding.{holds-set, holds-all, holds-within, length-within, counted-end, counted-few, holds-end, length-end, holds-head, left-filled, right-filled}
 
 module _ {Frame Fork : Type 0} where
   -- The stretch ended: the running machine's words are whole.
@@ -92,8 +92,16 @@ module _ {Frame Fork : Type 0} where
     pub count-is : count-ended n k ≡ length (opened S ++ written g)
     count-is = rw (i .counted, i .pends) (counted-end (buffer S g) (pending g) ∙ ap length (whole S g))
 
-    lent-holds : Holds (lent-ended lent n k) (opened S ++ written g)
-    lent-holds = rw (i .counted, i .pends) (subst (λ (x : List ℕ). Holds (lent-ended lent (length (buffer S g)) (pending g)) x) (whole S g) (holds-end lent (buffer S g) (pending g) (i .holds)))
+    stretch-holds : Holds (stretched lent n k) (opened S ++ written g)
+    stretch-holds = rw (i .counted, i .pends) (subst (λ (x : List ℕ). Holds (stretched lent (length (buffer S g)) (pending g)) x) (whole S g) (holds-end lent (buffer S g) (pending g) (i .holds)))
+
+    -- A length filled in.
+    filled-holds : (B : List ℕ) → B ≡ opened S ++ written g → (at from : ℕ) → Holds (lent-filled lent n k at from) (set B at (length B - from))
+    filled-holds B is at from =
+        let c : count-ended n k ≡ length B = count-is ∙ ap length (sym is) in
+        holds-within (count-ended n k) lent (set (stretched lent n k) at (count-ended n k - from)) (set B at (length B - from)) (c ∙ sym (length-set B at (length B - from)))
+        (subst (λ (j : ℕ). Holds (set (stretched lent n k) at (j - from)) (set B at (length B - from))) (sym c)
+        (holds-set (stretched lent n k) B at (length B - from) (rw is stretch-holds)))
 
     -- Other frames may keep other places.
     pub tracks-places : (p′ r′ : ℕ → ℕ) → ((j : ℕ) → j < length S → p′ j ≡ p j) → ((j : ℕ) → j < length S → r′ j ≡ r j) → Tracks lent n p′ r′ S k g t
@@ -111,7 +119,9 @@ module _ {Frame Fork : Type 0} where
           counted = omega (arith, c, length-append B (head 0 0), ap length e, ap length (fresh S′));
           pends = refl;
           placed = q;
-          holds = rw (fresh S′, e) (subst (λ (m : ℕ). Holds (set (set (set (lent-ended lent n k) m 1) (m + 1) 0) (m + 2) 0) (B ++ head 0 0)) (sym c) (holds-head (lent-ended lent n k) B lent-holds));
+          holds = rw (fresh S′, e) (holds-within (count-ended n k + 3) lent (set (set (set (stretched lent n k) (count-ended n k) 1) (count-ended n k + 1) 0) (count-ended n k + 2) 0) (B ++ head 0 0)
+              (omega (arith, c, length-append B (head 0 0)))
+              (subst (λ (m : ℕ). Holds (set (set (set (stretched lent n k) m 1) (m + 1) 0) (m + 2) 0) (B ++ head 0 0)) (sym c) (holds-head (stretched lent n k) B stretch-holds)));
           few = omega (arith, counted-few n k, i .few);
         }
 
@@ -139,7 +149,7 @@ module _ {Frame Fork : Type 0} where
     turn-within = omega (arith, i .placed .0, count-is i, length-append (before ++ head 0 0) (written g), length-append before (head 0 0))
 
     pub tracks-turn : (r′ : ℕ → ℕ) (v : ℕ) → r′ (length S) ≡ count-ended n k → ((j : ℕ) → (j ≡ length S → ⊥) → r′ j ≡ r j)
-        → Tracks (lent-turned lent n k (p (length S))) (count-ended n k) p r′ (promoted-right h g b v ∷ S) 0 empty t
+        → Tracks (lent-filled lent n k (p (length S) + 1) (p (length S) + 3)) (count-ended n k) p r′ (promoted-right h g b v ∷ S) 0 empty t
     unfolding Placed opened pending
     tracks-turn r′ v at other =
         let B : List ℕ = (before ++ head 0 0) ++ written g in
@@ -152,8 +162,7 @@ module _ {Frame Fork : Type 0} where
           counted = c ∙ sym (length-set B (p (length S) + 1) (length B - (p (length S) + 3))) ∙ sym (ap length e);
           pends = refl;
           placed = (here, at ∙ c ∙ long, placed-below p r p r′ S (λ j l. refl) (λ j l. other j (λ z. omega arith)) (i .placed .1));
-          holds = rw e (subst (λ (j : ℕ). Holds (set (lent-ended lent n k) (p (length S) + 1) (j - (p (length S) + 3))) (set B (p (length S) + 1) (length B - (p (length S) + 3))))
-              (sym c) (holds-set (lent-ended lent n k) B (p (length S) + 1) (length B - (p (length S) + 3)) (lent-holds i)));
+          holds = rw e (filled-holds i B refl (p (length S) + 1) (p (length S) + 3));
           few = omega (arith, counted-few n k, i .few);
         }
 
@@ -166,11 +175,11 @@ module _ {Frame Fork : Type 0} where
     abbrev L : List ℕ
     L = head (length (written l)) 0 ++ written l
 
-    pub join-within : r (length S) ≤ count-ended n k
+    pub join-within : (p (length S) + 3 ≤ r (length S)) × (r (length S) ≤ count-ended n k)
     unfolding Placed opened
-    join-within = omega (arith, i .placed .1, count-is i, length-append (base ++ L) (written g), length-append base L)
+    join-within = omega (arith, i .placed .0, i .placed .1, count-is i, length-append (base ++ L) (written g), length-append base L)
 
-    pub tracks-join : Tracks (lent-joined lent n k (p (length S)) (r (length S))) (count-ended n k) p r S 0 (fork h l g) t
+    pub tracks-join : Tracks (lent-filled lent n k (p (length S) + 2) (r (length S))) (count-ended n k) p r S 0 (fork h l g) t
     unfolding Placed opened pending parts fork-words
     tracks-join =
         let B : List ℕ = (base ++ L) ++ written g in
@@ -184,8 +193,7 @@ module _ {Frame Fork : Type 0} where
           counted = c ∙ sym (length-set B (p (length S) + 2) (length B - r (length S))) ∙ sym (ap length e);
           pends = refl;
           placed = i .placed .2;
-          holds = rw e (subst (λ (j : ℕ). Holds (set (lent-ended lent n k) (p (length S) + 2) (j - r (length S))) (set B (p (length S) + 2) (length B - r (length S))))
-              (sym c) (holds-set (lent-ended lent n k) B (p (length S) + 2) (length B - r (length S)) (lent-holds i)));
+          holds = rw e (filled-holds i B refl (p (length S) + 2) (r (length S)));
           few = omega (arith, counted-few n k, i .few);
         }
 
@@ -197,12 +205,13 @@ module _ {Frame Fork : Type 0} where
   -- THE VALUE: the last stretch is written, the count is the graph's number of words, and where they fit the buffer begins with them.
   pub tracks-value : {lent : List ℕ} {n k : ℕ} {p r : ℕ → ℕ} {g : Graph} {t : RunCounts} → Tracks {Frame = Frame} {Fork = Fork} lent n p r [] k g t
       → (count-ended n k ≡ length (written g)) × (count-ended n k ≤ length lent → take (count-ended n k) (lent-ended lent n k) ≡ written g)
-  unfolding opened
+  unfolding opened lent-ended
   tracks-value {lent} {n} {k} {g = g} i =
       let c : count-ended n k ≡ length (written g) = count-is i in (
         c,
         λ fits. subst (λ (j : ℕ). take j (lent-ended lent n k) ≡ written g) (sym c)
-            (holds-all (lent-ended lent n k) (written g) (lent-holds i) (omega (arith, length-end lent n k))),
+            (holds-all (lent-ended lent n k) (written g) (holds-within (count-ended n k) lent (stretched lent n k) (written g) c (stretch-holds i))
+            (omega (arith, length-within (count-ended n k) lent (stretched lent n k) (length-end lent n k)))),
       )
 
 -- A TRANSITION writes nothing, whatever ordinary or plain frame it opens or closes.

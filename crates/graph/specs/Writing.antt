@@ -5,7 +5,9 @@
 -- writing (proofs/Tracking.antt).
 use Prim.Native.Nat.{ℕ, zero, suc, _+_, _*_, _-_, _≤_, _<_}
 use mathlib.Core.Path.{_≡_}
+use mathlib.Core.Bool.{cond}
 use mathlib.Core.List.{List, [], _∷_, _++_}
+use lib.Dec.{leb}
 use lib.ListN.{length, getD, set}
 use Rattle.schedule.specs.Graph.{Graph}
 use Rattle.schedule.specs.Algebra.{graphs}
@@ -38,31 +40,36 @@ module _ {Frame Fork : Type 0} where
       (place (length S) ≡ length (opened S ++ written h)) × (right (length S) ≡ length (opened S ++ written h) + 3 + length (written l))
       × Placed place right S
 
--- What a lent buffer holds of the words: all that it has room for. To write past its end changes nothing.
+-- What a lent buffer holds of the words: where it has room for all of them, it begins with them. Where it has not, the graph will not fit, the buffer is
+-- cleared in the end, and what it has until then does not matter.
 abbrev pub Holds : List ℕ → List ℕ → Type 0
-Holds lent w = (i : ℕ) → i < length lent → i < length w → getD lent i 0 ≡ getD w i 0
+Holds lent w = length w ≤ length lent → (i : ℕ) → i < length w → getD lent i 0 ≡ getD w i 0
 
 -- THE WRITES, on a lent buffer, with n words counted so far and k transitions pending. First the stretch ends; a stretch of none is no word.
 unfoldable pub count-ended : ℕ → ℕ → ℕ
 count-ended n zero = n
 count-ended n (suc k) = n + 2
 
+unfoldable pub stretched : List ℕ → ℕ → ℕ → List ℕ
+stretched lent n zero = lent
+stretched lent n (suc k) = set (set lent n 0) (n + 1) (suc k)
+
+-- Words that do not fit are not written: so many must be within the buffer.
+unfoldable pub within : ℕ → List ℕ → List ℕ → List ℕ
+within end lent changed = cond (leb end (length lent)) changed lent
+
 unfoldable pub lent-ended : List ℕ → ℕ → ℕ → List ℕ
-lent-ended lent n zero = lent
-lent-ended lent n (suc k) = set (set lent n 0) (n + 1) (suc k)
+lent-ended lent n k = within (count-ended n k) lent (stretched lent n k)
 
 -- A promotion, or a fork that is promoted at its birth: three words, whose place the frame keeps.
 abbrev pub lent-forked : List ℕ → ℕ → ℕ → List ℕ
 lent-forked lent n k =
-    set (set (set (lent-ended lent n k) (count-ended n k) 1) (count-ended n k + 1) 0) (count-ended n k + 2) 0
+    within (count-ended n k + 3) lent
+    (set (set (set (stretched lent n k) (count-ended n k) 1) (count-ended n k + 1) 0) (count-ended n k + 2) 0)
 
--- The left's arrival at the frame with this place: the left length is what was written after the three words.
-abbrev pub lent-turned : List ℕ → ℕ → ℕ → ℕ → List ℕ
-lent-turned lent n k place = set (lent-ended lent n k) (place + 1) (count-ended n k - (place + 3))
-
--- The join: the right length is what was written from the right graph's place on.
-abbrev pub lent-joined : List ℕ → ℕ → ℕ → ℕ → ℕ → List ℕ
-lent-joined lent n k place right = set (lent-ended lent n k) (place + 2) (count-ended n k - right)
+-- The left's arrival, and the join: the length of what was written from `from` on is filled in at `at`.
+abbrev pub lent-filled : List ℕ → ℕ → ℕ → ℕ → ℕ → List ℕ
+lent-filled lent n k at from = within (count-ended n k) lent (set (stretched lent n k) at (count-ended n k - from))
 
 -- THE INVARIANT of a run that writes: what code holds of the machine's state over graphs. Nothing is asked of the buffer's length. With fuel at most
 -- 100,000,000 the words stay few enough that code need not test their count.

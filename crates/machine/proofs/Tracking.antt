@@ -32,8 +32,7 @@ use Rattle.schedule.proofs.Bounds.{start-measure}
 use Rattle.table.specs.WellFormed.{WellFormed}
 use Rattle.frames.specs.Frames.{frameValue, frameBefore, frameLeft, frameArguments, placed, rightPlaced}
 use Rattle.graph.specs.Words.{written}
-use Rattle.graph.specs.Writing.{Placed, count-ended, lent-ended, lent-forked, lent-turned, lent-joined, TracksState}
-use Rattle.graph.proofs.Holding.{counted-few}
+use Rattle.graph.specs.Writing.{Placed, count-ended, lent-ended, lent-forked, lent-filled, TracksState}
 use Rattle.graph.proofs.Runs.{made, Within, StepBy, promoting, moving, step-by-view, first-step, no-steps, risen-at-most, within-steps, flags-step, runs-same, step-by-map, steps-map, lifted}
 use Rattle.graph.proofs.Tracking.{oldest-in, tracks-start, tracks-places, tracks-promotion, tracks-birth, turn-within, tracks-turn, join-within, tracks-join, tracks-value, tracks-steps}
 use Rattle.language.specs.Language.{Code, Frame, language}
@@ -386,7 +385,7 @@ module _ (w ws ls : List ℕ) (size : ℕ) (plan : Plan) (g : Compact) (lent : L
   turn-tracked : (G H : State graphs N) → step-by graphs N (plan .fuel .0) (size / 32) (plan .birth) (plan .period) G ≡ ongoing H → Over w (plan .tau) ws ls (full g) G
       → (v at : ℕ) → Returning w ws ls plan g v at 7 → TracksState N lent n (placeAt ws) (rightAt ws) G
       → (p r : ℕ → ℕ) → ((j : ℕ) → p j ≡ placeAt ws j) → r at ≡ count-ended n k → ((j : ℕ) → (j ≡ at → ⊥) → r j ≡ rightAt ws j)
-      → TracksState N (lent-turned lent n k (placeAt ws at)) (count-ended n k) p r H
+      → TracksState N (lent-filled lent n k (placeAt ws at + 1) (placeAt ws at + 3)) (count-ended n k) p r H
   unfolding Over TracksState step-by move controlOf promotable
   turn-tracked (state d S i x u) H e o v at q tr p r same kept other =
       let top = left-here S (o .1) v at q in
@@ -397,7 +396,7 @@ module _ (w ws ls : List ℕ) (size : ℕ) (plan : Plan) (g : Compact) (lent : L
       let moved = rw (returns, top .2, and-none (leb (plan .period) i)) at e in
       let to : after-turn graphs N b v (top .0) T i x u ≡ H = cc in
       let tracks = rw (top .2, o .2) at tr in
-      subst (TracksState N (lent-turned lent n k (placeAt ws at)) (count-ended n k) p r) to
+      subst (TracksState N (lent-filled lent n k (placeAt ws at + 1) (placeAt ws at + 3)) (count-ended n k) p r) to
       (tracks-places (rw deep at (tracks-turn tracks r v (ap r deep ∙ kept) (λ j z. other j (λ y. z (y ∙ sym deep))))) p r (λ j y. same j) (λ j y. refl))
 
   -- the join: one that awaits its right
@@ -416,22 +415,17 @@ module _ (w ws ls : List ℕ) (size : ℕ) (plan : Plan) (g : Compact) (lent : L
       (top .0, top .1, top .2, top .3, sym (length-map (span (plan .tau)) (top .2)) ∙ ap length (top .4) ∙ length-stack ws at)
 
   join-placed : (G : State graphs N) → Over w (plan .tau) ws ls (full g) G → (v at kind : ℕ) → Returning w ws ls plan g v at kind → 8 ≤ kind
-      → TracksState N lent n (placeAt ws) (rightAt ws) G → (placeAt ws at ≤ count-ended n k) × (rightAt ws at ≤ count-ended n k)
-  unfolding Over TracksState Placed
+      → TracksState N lent n (placeAt ws) (rightAt ws) G → (placeAt ws at + 3 ≤ rightAt ws at) × (rightAt ws at ≤ count-ended n k)
+  unfolding Over TracksState
   join-placed (state d S i x u) o v at kind q late tr =
       let top = right-here S (o .1) v at kind q late in
-      let T = top .2 in
       let tracks = rw (top .3, o .2) at tr in
-      let w1 = rw (top .4) at (join-within tracks) in
-      let placed = tracks .placed in
-      let w0 : placeAt ws (length T) ≤ rightAt ws (length T) = omega (arith, placed .0, placed .1) in
-      let w2 : placeAt ws at ≤ rightAt ws at = rw (top .4) at w0 in
-      (omega arith, w1)
+      rw (top .4) at (join-within tracks)
 
   join-tracked : (G H : State graphs N) → step-by graphs N (plan .fuel .0) (size / 32) (plan .birth) (plan .period) G ≡ ongoing H → Over w (plan .tau) ws ls (full g) G
       → (v at kind : ℕ) → Returning w ws ls plan g v at kind → 8 ≤ kind → TracksState N lent n (placeAt ws) (rightAt ws) G
       → (p r : ℕ → ℕ) → ((j : ℕ) → p j ≡ placeAt ws j) → ((j : ℕ) → r j ≡ rightAt ws j)
-      → TracksState N (lent-joined lent n k (placeAt ws at) (rightAt ws at)) (count-ended n k) p r H
+      → TracksState N (lent-filled lent n k (placeAt ws at + 2) (rightAt ws at)) (count-ended n k) p r H
   unfolding Over TracksState step-by move controlOf promotable
   join-tracked (state d S i x u) H e o v at kind q late tr p r same also =
       let top = right-here S (o .1) v at kind q late in
@@ -443,7 +437,7 @@ module _ (w ws ls : List ℕ) (size : ℕ) (plan : Plan) (g : Compact) (lent : L
       let moved = rw (returns, top .3, and-none (leb (plan .period) i)) at e in
       let to : after-join graphs N b l v (top .0) (top .1) T i x u ≡ H = cc in
       let tracks = rw (top .3, o .2) at tr in
-      subst (TracksState N (lent-joined lent n k (placeAt ws at) (rightAt ws at)) (count-ended n k) p r) to
+      subst (TracksState N (lent-filled lent n k (placeAt ws at + 2) (rightAt ws at)) (count-ended n k) p r) to
       (tracks-places (rw deep at (tracks-join tracks)) p r (λ j y. same j) (λ j y. also j))
 
 tracks-as : (M : FrameMachine) {lent lent′ : List ℕ} (n n′ : ℕ) → lent′ ≡ lent → n′ ≡ n → (p r : ℕ → ℕ) (H : State graphs M) → TracksState M lent n p r H → TracksState M lent′ n′ p r H
@@ -467,9 +461,7 @@ module _ {w arguments : List ℕ} {size : ℕ} {plan : Plan} {ws ls : List ℕ} 
       (omega (arith, roomy, a .depth), turn-placed w ws ls size plan g lent n (r .starts) (t .at) (t .over) v top a (t .tracks h))
   framed-of (pause.Join v top kind) a not fits h =
       let x = join-placed w ws ls size plan g lent n (r .starts) (t .at) (t .over) v top kind (a .0) (a .1) (t .tracks h) in
-      let small = small-end r t h in
-      let few = counted-few n (full g .credits .0) in
-      (omega (arith, roomy, a .0 .depth), omega (arith, x .0, small .words), x .1)
+      (omega (arith, roomy, a .0 .depth), x .0, x .1)
 
   pub free-markable : (p : Pause) → Awaits w ws ls plan g p → (p ≡ pause.Limit → ⊥) → Fits ws g p → 0 < length lent → Markable ws n (full g .credits .0) (eventOf g p)
   free-markable p a not fits h = record { small = small-end r t h; framed = framed-of p a not fits h }

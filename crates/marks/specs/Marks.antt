@@ -4,7 +4,7 @@ use mathlib.Core.Path.{_≡_}
 use mathlib.Core.List.{List}
 use lib.ListN.{length}
 use Rattle.frames.specs.Frames.{framePlace, frameRight, placed, rightPlaced}
-use Rattle.graph.specs.Writing.{count-ended, lent-forked, lent-turned, lent-joined}
+use Rattle.graph.specs.Writing.{count-ended, lent-forked, lent-filled}
 use Rattle.compact.specs.declared.Event.{Event}
 use Rattle.compact.specs.declared.Event.the-variants.{Fork, Turn, Join}
 
@@ -17,7 +17,7 @@ pub record Small (n made : ℕ) : Type 0 where
 unfoldable pub Framed : (ws : List ℕ) (n made : ℕ) → Event → Type 0
 Framed ws n made (Fork at) = 32 * at + 32 ≤ length ws
 Framed ws n made (Turn at) = (32 * at + 32 ≤ length ws) × (framePlace ws (32 * at) + 3 ≤ count-ended n made)
-Framed ws n made (Join at) = (32 * at + 32 ≤ length ws) × (framePlace ws (32 * at) < 2 ^ 32) × (frameRight ws (32 * at) ≤ count-ended n made)
+Framed ws n made (Join at) = (32 * at + 32 ≤ length ws) × (framePlace ws (32 * at) + 3 ≤ frameRight ws (32 * at)) × (frameRight ws (32 * at) ≤ count-ended n made)
 
 pub record Markable (ws : List ℕ) (n made : ℕ) (event : Event) : Type 0 where
   pub small : Small n made
@@ -31,8 +31,8 @@ placesMarked ws n made (Join at) = ws
 
 unfoldable pub graphMarked : (ws graph : List ℕ) (n made : ℕ) → Event → List ℕ
 graphMarked ws graph n made (Fork at) = lent-forked graph n made
-graphMarked ws graph n made (Turn at) = lent-turned graph n made (framePlace ws (32 * at))
-graphMarked ws graph n made (Join at) = lent-joined graph n made (framePlace ws (32 * at)) (frameRight ws (32 * at))
+graphMarked ws graph n made (Turn at) = lent-filled graph n made (framePlace ws (32 * at) + 1) (framePlace ws (32 * at) + 3)
+graphMarked ws graph n made (Join at) = lent-filled graph n made (framePlace ws (32 * at) + 2) (frameRight ws (32 * at))
 
 unfoldable pub countMarked : (n made : ℕ) → Event → ℕ
 countMarked n made (Fork at) = count-ended n made + 3

@@ -32,7 +32,8 @@ pub fn turn(ws: &mut [u64], graph: &mut [u32], n: usize, made: u64, at: usize) -
         return n;
     }
     let b = frames::WORDS * at;
-    let end = graph::turn(graph, n, made, frames::place_of(ws, b));
+    let place = frames::place_of(ws, b);
+    let end = graph::end_branch(graph, n, made, place + 1, place + 3);
     frames::keep_right(ws, b, end);
     end
 }
@@ -46,13 +47,8 @@ pub fn join(ws: &[u64], graph: &mut [u32], n: usize, made: u64, at: usize) -> us
         return n;
     }
     let b = frames::WORDS * at;
-    graph::join(
-        graph,
-        n,
-        made,
-        frames::place_of(ws, b),
-        frames::right_of(ws, b),
-    )
+    let place = frames::place_of(ws, b);
+    graph::end_branch(graph, n, made, place + 2, frames::right_of(ws, b))
 }
 
 // The number of words at the end of a run, with the last stretch. A buffer of no words has room for no graph, and nothing was counted: 1 is told.

@@ -16,12 +16,20 @@ mul-b c = let m = c .before .before .before .pre (omega (arith, c .if1 .left)) i
 
 place-of-requires : tie.Need-place-of-requires
 unfolding Framed
-place-of-requires c κs = let m = c .before .before .before .before .before .pre (omega (arith, c .before .before .if1 .left)) in m .framed .0
+place-of-requires c κs = let m = c .before .before .before .before .pre (omega (arith, c .before .if1 .left)) in m .framed .0
 
-turn-requires : tie.Need-turn-requires
+add-end-branch : tie.Need-add-end-branch
 unfolding Framed
-turn-requires c κs = let m = c .before .before .before .before .before .before .pre (omega (arith, c .before .before .before .if1 .left)) in let few = counted-few (c .before .before .before .before .before .before .args .n) (c .before .before .before .before .before .before .args .made) in
-    omega (arith, c .place-of .ensures, m .small .words, m .small .pending, m .framed .1)
+add-end-branch c = let m = c .before .before .before .before .before .before .pre (omega (arith, c .before .before .before .if1 .left)) in let few = counted-few (c .before .before .before .before .before .before .args .n) (c .before .before .before .before .before .before .args .made) in omega (arith, c .before .place-of .ensures, m .small .words, m .framed .1)
+
+add-end-branch-2 : tie.Need-add-end-branch-2
+unfolding Framed
+add-end-branch-2 c = let m = c .before .before .before .before .before .before .pre (omega (arith, c .before .before .before .if1 .left)) in let few = counted-few (c .before .before .before .before .before .before .args .n) (c .before .before .before .before .before .before .args .made) in omega (arith, c .before .place-of .ensures, m .small .words, m .framed .1)
+
+end-branch-requires : tie.Need-end-branch-requires
+unfolding Framed
+end-branch-requires c κs = let m = c .before .before .before .before .before .before .pre (omega (arith, c .before .before .before .if1 .left)) in let few = counted-few (c .before .before .before .before .before .before .args .n) (c .before .before .before .before .before .before .args .made) in
+    omega (arith, c .before .place-of .ensures, m .small .words, m .small .pending, m .framed .1)
 
 keep-right-requires : tie.Need-keep-right-requires
 unfolding Framed
@@ -35,7 +43,7 @@ same-length-2 c = search needs
 
 returns-2 : tie.Need-returns-2
 unfolding placesMarked graphMarked countMarked
-returns-2 c = record { none = λ h. absurd (omega (arith, c .before .before .before .before .before .before .before .before .before .before .if1 .left)); some = λ h. (rw (c .before .before .before .before .before .before .turn .ensures .0) at (c .before .before .keep-right .ensures), rw (c .before .before .before .before .before .before .before .place-of .ensures) at (c .before .before .before .before .before .before .turn .ensures .1), c .before .before .before .before .before .before .turn .ensures .0) }
+returns-2 c = record { none = λ h. absurd (omega (arith, c .before .before .before .before .before .before .before .before .before .before .if1 .left)); some = λ h. (rw (c .before .before .before .before .before .before .end-branch .ensures .0) at (c .before .before .keep-right .ensures), rw (c .before .before .before .before .before .before .before .before .place-of .ensures) at (c .before .before .before .before .before .before .end-branch .ensures .1), c .before .before .before .before .before .before .end-branch .ensures .0) }
 
 pub turn-spec : {M : Type 1} → statement M
 turn-spec =
@@ -44,7 +52,9 @@ turn-spec =
     returns
     mul-b
     place-of-requires
-    turn-requires
+    add-end-branch
+    add-end-branch-2
+    end-branch-requires
     keep-right-requires
     same-length
     same-length-2
