@@ -23,7 +23,7 @@ pub record Markable (ws : List ℕ) (n made : ℕ) (event : Event) : Type 0 wher
   pub small : Small n made
   pub framed : Framed ws n made event
 
--- THE WORKSPACE, THE BUFFER AND THE COUNT after a free move
+-- THE WORKSPACE, THE BUFFER AND THE COUNT with the marks of a free move, which are made before it
 unfoldable pub placesMarked : List ℕ → (n made : ℕ) → Event → List ℕ
 placesMarked ws n made (Fork at) = placed ws (32 * at) (count-ended n made)
 placesMarked ws n made (Turn at) = rightPlaced ws (32 * at) (count-ended n made)

@@ -1,6 +1,6 @@
 -- `strides::spent_node` meets its contract, by the laws of Pausing.
 use Prim.Native.Nat.{ℕ}
-use mathlib.Core.Path.{_≡_, sym, _∙_}
+use mathlib.Core.Path.{_≡_}
 use native.Mathlib.Omega.{arith}
 use Rattle.strides.specs.Strides.{Awaits}
 use Rattle.strides.proofs.Striding.{function-few, starts-inside, word-inside, node-few, tag-here}
@@ -35,13 +35,13 @@ spent-requires-2 c κs = search needs
 
 returns : tie.Need-returns
 unfolding Awaits
-returns c = let p = c .before .before .before .before .before .before .before .before .before in pause-ends (p .args .words .now) (p .args .ws .now) (p .args .locals .now) (p .args .plan) (p .args .g) _ (λ e. let no : _≡_ {A = ℕ} 0 1 = cc in omega arith) (p .pre .0, p .pre .1, sym (tag-here (p .args .words .now) (p .args .ws .now) (p .args .locals .now) (p .args .plan) (p .args .g) (p .pre .0) (p .args .seat) (p .pre .1) _ (p .pre .2)) ∙ c .before .if1 .taken, c .if2 .taken)
+returns c = let p = c .before .before .before .before .before .before .before .before .before in pause-ends (p .args .words .now) (p .args .ws .now) (p .args .locals .now) (p .args .plan) (p .args .g) _ (λ e. let no : _≡_ {A = ℕ} 0 1 = cc in omega arith) (p .pre .0, p .pre .1, omega (arith, tag-here (p .args .words .now) (p .args .ws .now) (p .args .locals .now) (p .args .plan) (p .args .g) (p .pre .0) (p .args .seat) (p .pre .1) _ (p .pre .2), c .before .if1 .taken), c .if2 .taken)
 
 returns-2 : tie.Need-returns-2
 returns-2 c = let p = c .before .before .before .before .before .before .before .before .before .before in node-spent (p .args .words .now) (p .args .ws .now) (p .args .locals .now) (p .args .plan) (p .args .g) (p .pre .0) (p .pre .3) (p .args .seat) (p .pre .1) (λ e. c .before .if2 .left) _ (c .spent .ensures)
 
 returns-3 : tie.Need-returns-3
-returns-3 c = let p = c .before .before .before .before .before .before .before .before .before in node-spent (p .args .words .now) (p .args .ws .now) (p .args .locals .now) (p .args .plan) (p .args .g) (p .pre .0) (p .pre .3) (p .args .seat) (p .pre .1) (λ e. absurd (c .before .if1 .left (tag-here (p .args .words .now) (p .args .ws .now) (p .args .locals .now) (p .args .plan) (p .args .g) (p .pre .0) (p .args .seat) (p .pre .1) _ (p .pre .2) ∙ e))) _ (c .spent2 .ensures)
+returns-3 c = let p = c .before .before .before .before .before .before .before .before .before in node-spent (p .args .words .now) (p .args .ws .now) (p .args .locals .now) (p .args .plan) (p .args .g) (p .pre .0) (p .pre .3) (p .args .seat) (p .pre .1) (λ e. absurd (c .before .if1 .left (omega (arith, tag-here (p .args .words .now) (p .args .ws .now) (p .args .locals .now) (p .args .plan) (p .args .g) (p .pre .0) (p .args .seat) (p .pre .1) _ (p .pre .2), e)))) _ (c .spent2 .ensures)
 
 pub spent-node-spec : {M : Type 1} → statement M
 spent-node-spec =
