@@ -17,7 +17,7 @@ use lib.ListN.{length, getD, take, set, replicate, length-append, length-set, Li
 use lib.Seq.{drop-length, set-at, getD-set-same, getD-set-other, getD-append-seam, getD-take, length-take-le, ext-getD}
 use borrow.Rule.Slice.PartMut.{midOf, postOf, putMid, post-is, mid-len}
 use Rattle.graph.specs.Words.{stretch, head}
-use Rattle.graph.specs.Writing.{Holds, count-ended, stretched, within, lent-ended, lent-forked, lent-filled}
+use Rattle.graph.specs.Writing.{Holds, count-ended, stretched, within}
 
 holds-more : (lent w : List ℕ) (a : ℕ) → Holds lent w → Holds (set lent (length w) a) (w ++ (a ∷ []))
 holds-more lent w a held h i k = on (ℕ-discrete i (length w))

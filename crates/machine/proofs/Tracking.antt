@@ -32,7 +32,7 @@ use Rattle.schedule.proofs.Bounds.{start-measure}
 use Rattle.table.specs.WellFormed.{WellFormed}
 use Rattle.frames.specs.Frames.{frameValue, frameBefore, frameLeft, frameArguments, placed, rightPlaced}
 use Rattle.graph.specs.Words.{written}
-use Rattle.graph.specs.Writing.{Placed, count-ended, lent-ended, lent-forked, lent-filled, TracksState}
+use Rattle.graph.specs.Writing.{count-ended, lent-ended, lent-forked, lent-filled, TracksState}
 use Rattle.graph.proofs.Runs.{made, Within, StepBy, promoting, moving, step-by-view, first-step, no-steps, risen-at-most, within-steps, flags-step, runs-same, step-by-map, steps-map, lifted}
 use Rattle.graph.proofs.Tracking.{oldest-in, tracks-start, tracks-places, tracks-promotion, tracks-birth, turn-within, tracks-turn, join-within, tracks-join, tracks-value, tracks-steps}
 use Rattle.language.specs.Language.{Code, Frame, language}

@@ -1,9 +1,8 @@
 -- `graph::fork` meets its contract.
 use native.Mathlib.Omega.{arith}
-use mathlib.Core.Path.{_∙_}
 use lib.ListN.{set, length-set}
 use Prim.Native.Nat.{_+_}
-use Rattle.graph.proofs.Holding.{counted-few, within-fits, within-over, length-end}
+use Rattle.graph.proofs.Holding.{counted-few, within-fits, within-over}
 use Rattle.graph.specs.Writing.{count-ended, stretched}
 use borrow.Author.Needs.{needs}
 use Rattle.graph.proofs.fork.Statement.{statement}
