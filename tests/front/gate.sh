@@ -1,4 +1,4 @@
-# The gate says what is missing before it proves anything, how far it is, and why a check failed; its last line is the tally.
+# The gate says what is missing before it proves anything, how far it is, why a check failed and how long each part took; its last line is the tally.
 toy "$work/toy"
 cd "$work/toy" || exit 1
 checks=$(sed -n "s/^checks='\(.*\)'$/\1/p" .ci/run)
@@ -29,6 +29,14 @@ for step in $(seq "$steps"); do wrote out "$step of $steps, "; done
 for check in $checks; do wrote out "$steps, $check" "the words of $check"; done
 wrote out 'crates' 'edits'
 called 1
+# before the last line, a row with its seconds for each part of rt ci, for each check and for all
+tail -n "$((steps + 4))" "$work/out" | sed '$d' > "$work/rows"
+seen=$((seen + 1))
+[ "$(grep -c '^gate: *[0-9][0-9]* s  ' "$work/rows")" -eq "$((steps + 3))" ] || { wrong "the last lines are not the parts with their seconds, but:"; cat "$work/rows"; }
+for row in 'rt ci: [0-9]* crates' 'rt ci: [0-9]* must-fail edits' 'rt ci: the programs' $checks 'in all'; do
+    seen=$((seen + 1))
+    grep -q "s  $row\$" "$work/rows" || wrong "no row of the seconds is for $row"
+done
 
 # a check that fails is named, told whole, and counted
 for check in $checks; do
@@ -51,7 +59,7 @@ mkdir "$work/path"
 # shellcheck disable=SC2046
 find "$work/tools" $(echo "$PATH" | tr : '\n' | sort -u) -maxdepth 1 ! -type d -exec ln -sf -t "$work/path" {} +
 ln -sf "$work/tools/rt" "$work/path/rt"
-for tool in rt rustc cc; do
+for tool in rt rustc cc python3; do
     mv "$work/path/$tool" "$work/aside"
     : > "$work/calls"
     PATH=$work/path ends 1 bash .ci/run

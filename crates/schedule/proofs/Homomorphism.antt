@@ -179,7 +179,7 @@ fold-unique K h e (fork g l r) = e .on-fork g l r ∙ rw (fold-unique K h e g, f
 
 pub span-carried : SpanCarried
 unfolding span
-span-carried τ = record { on-empty = refl; on-transition = λ a. refl; on-fork = λ a b c. refl }
+span-carried τ = record { on-empty = refl; on-transition = λ a. refl; on-fork = λ a b c. omega arith }
 
 -- The run over spans tells the spans of the run over graphs.
 pub spans-told : (τ : ℕ) (M : FrameMachine) (fuel frames : ℕ) (m : Schedule) (c : M .Code)

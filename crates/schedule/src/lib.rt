@@ -2,7 +2,7 @@
 // in for another". Their sums are those of the cost algebra of spans (specs/Algebra.antt) and of the machine (specs/Machine.antt).
 ghost use mathlib.Core.Path.{_≡_};
 ghost use Prim.Native.Nat.{_+_, _*_, _≤_, _<_, _^_, max};
-ghost use lib.Dec.{ltb, leb};
+ghost use lib.Dec.{leb};
 
 // The transitions of the running machine since it started.
 pub struct Credits(pub u64);
@@ -33,15 +33,6 @@ impl Credits {
 
 // The transitions that a run may make.
 pub struct Fuel(pub u64);
-
-impl Fuel {
-    // Is one more left, after those made?
-    pub fn allows(self, transitions: u64) -> bool
-        ensures { λ r. ⌜ r ≡ ltb transitions (self .0) ⌝ }
-    {
-        transitions < self.0
-    }
-}
 
 // The span of a graph.
 pub struct Span(pub u64);

@@ -27,14 +27,14 @@ refuse-requires c κs = search needs
 
 returns-2 : tie.Need-returns-2
 unfolding checkedOf
-returns-2 c = promised (c .before .before .before .before .before .before .before .args .words .now) _ _ _ _ _ _ (then-goes _ _ _ _ (c .before .before .before .before .before .read .ensures .0) (c .before .before .before .enum-told .given .1) (arguments-differ _ _ _ (c .before .before .arity .ensures) _ _ (c .before .if1 .taken) (c .refuse .ensures)))
+returns-2 c = promised (c .before .before .before .before .before .before .before .args .words .now) _ _ _ _ _ _ (then-goes _ _ _ _ (c .before .before .before .before .before .read .ensures .0) (c .before .before .before .enum-told .given .1) (arguments-differ _ (c .before .before .before .before .before .before .before .args .arguments) _ (c .before .before .arity .ensures) _ _ (λ e. omega (arith, e)) (c .refuse .ensures)))
 
 settings-checked-requires : tie.Need-settings-checked-requires
 settings-checked-requires c κs = search needs
 
 returns-3 : tie.Need-returns-3
 unfolding checkedOf
-returns-3 c = promised (c .before .before .before .before .before .before .before .args .words .now) _ _ _ _ _ _ (then-goes _ _ _ _ (c .before .before .before .before .before .read .ensures .0) (c .before .before .before .enum-told .given .1) (arguments-agree _ _ _ (c .before .before .arity .ensures) _ _ (c .before .if1 .left) (c .settings-checked .ensures)))
+returns-3 c = promised (c .before .before .before .before .before .before .before .args .words .now) _ _ _ _ _ _ (then-goes _ _ _ _ (c .before .before .before .before .before .read .ensures .0) (c .before .before .before .enum-told .given .1) (arguments-agree _ (c .before .before .before .before .before .before .before .args .arguments) _ (c .before .before .arity .ensures) _ _ (omega arith) (c .settings-checked .ensures)))
 
 pub checked-spec : {M : Type 1} → statement M
 checked-spec =

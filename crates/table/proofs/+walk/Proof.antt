@@ -218,7 +218,7 @@ walk-returns-6 : (t : ℕ) → walk-lts.Need-returns-6 (
   third-reads.Asked,
   third-reads.Learnt,
 ) (walk-at t) walk.Post
-walk-returns-6 t c = walks-b _ _ _ _ _ (c .before .before .before .before .before .before .before .before .before .before .before .if1 .left) _ (c .before .before .before .before .before .before .before .before .before .before .shape-at .ensures) _ (c .before .before .before .before .before .before .before .before .before .number .ensures) (c .before .before .before .before .before .before .before .before .if2 .left) _ (c .before .before .before .before .before .before .walk .ensures) (c .before .before .before .before .before .before .before .if3 .left) (c .before .before .before .before .before .if4 .left) _ _ (c .before .second .ensures) (c .before .before .before .first .given .1) (c .if5 .taken)
+walk-returns-6 t c = walks-b _ _ _ _ _ (c .before .before .before .before .before .before .before .before .before .before .before .if1 .left) _ (c .before .before .before .before .before .before .before .before .before .before .shape-at .ensures) _ (c .before .before .before .before .before .before .before .before .before .number .ensures) (c .before .before .before .before .before .before .before .before .if2 .left) _ (c .before .before .before .before .before .before .walk .ensures) (c .before .before .before .before .before .before .before .if3 .left) (c .before .before .before .before .before .if4 .left) _ _ (c .before .second .ensures) (c .before .before .before .first .given .1) (λ e. omega (arith, e))
 
 walk-add-walk-2 : (t : ℕ) → walk-lts.Need-add-walk-2 (
   shape-at-reads.Asked,
@@ -246,7 +246,7 @@ walk-walk-requires-2 : (t : ℕ) → walk-lts.Need-walk-requires-2 (
   third-reads.Asked,
   third-reads.Learnt,
 ) (walk-at t) walk.Post
-walk-walk-requires-2 t c κs = let entry = c .before .before .before .before .before .before .before .before .before .before .before .before .before .before .before in omega (arith, entry .pre, deeper (entry .args .words .now) (entry .args .body) (entry .args .level) (entry .args .p) (entry .args .k) (c .before .before .before .before .before .before .before .before .before .before .before .before .if1 .left) _ (c .before .before .before .before .before .before .before .before .before .before .before .shape-at .ensures) _ (c .before .before .before .before .before .before .before .before .before .before .number .ensures) (c .before .before .before .before .before .before .before .before .before .if2 .left) (entry .pre .1 .1), within-b (entry .args .words .now) (entry .args .body) (entry .args .level) (entry .args .p) (entry .args .k) (c .before .before .before .before .before .before .before .before .before .before .before .before .if1 .left) _ (c .before .before .before .before .before .before .before .before .before .before .before .shape-at .ensures) _ (c .before .before .before .before .before .before .before .before .before .before .number .ensures) (c .before .before .before .before .before .before .before .before .before .if2 .left) _ (c .before .before .before .before .before .before .before .walk .ensures) (c .before .before .before .before .before .before .before .before .if3 .left) (c .before .before .before .before .before .before .if4 .left) _ _ (c .before .before .second .ensures) (c .before .before .before .before .first .given .1) (c .before .if5 .left))
+walk-walk-requires-2 t c κs = let entry = c .before .before .before .before .before .before .before .before .before .before .before .before .before .before .before in omega (arith, entry .pre, deeper (entry .args .words .now) (entry .args .body) (entry .args .level) (entry .args .p) (entry .args .k) (c .before .before .before .before .before .before .before .before .before .before .before .before .if1 .left) _ (c .before .before .before .before .before .before .before .before .before .before .before .shape-at .ensures) _ (c .before .before .before .before .before .before .before .before .before .before .number .ensures) (c .before .before .before .before .before .before .before .before .before .if2 .left) (entry .pre .1 .1), within-b (entry .args .words .now) (entry .args .body) (entry .args .level) (entry .args .p) (entry .args .k) (c .before .before .before .before .before .before .before .before .before .before .before .before .if1 .left) _ (c .before .before .before .before .before .before .before .before .before .before .before .shape-at .ensures) _ (c .before .before .before .before .before .before .before .before .before .before .number .ensures) (c .before .before .before .before .before .before .before .before .before .if2 .left) _ (c .before .before .before .before .before .before .before .walk .ensures) (c .before .before .before .before .before .before .before .before .if3 .left) (c .before .before .before .before .before .before .if4 .left) _ _ (c .before .before .second .ensures) (c .before .before .before .before .first .given .1) (omega arith))
 
 walk-returns-7 : (t : ℕ) → walk-lts.Need-returns-7 (
   shape-at-reads.Asked,
@@ -260,7 +260,7 @@ walk-returns-7 : (t : ℕ) → walk-lts.Need-returns-7 (
   third-reads.Asked,
   third-reads.Learnt,
 ) (walk-at t) walk.Post
-walk-returns-7 t c = walks-two _ _ _ _ _ (c .before .before .before .before .before .before .before .before .before .before .before .before .before .if1 .left) _ (c .before .before .before .before .before .before .before .before .before .before .before .before .shape-at .ensures) _ (c .before .before .before .before .before .before .before .before .before .before .before .number .ensures) (c .before .before .before .before .before .before .before .before .before .before .if2 .left) _ (c .before .before .before .before .before .before .before .before .walk .ensures) (c .before .before .before .before .before .before .before .before .before .if3 .left) (c .before .before .before .before .before .before .before .if4 .left) _ _ (c .before .before .before .second .ensures) (c .before .before .before .before .before .first .given .1) (c .before .before .if5 .left) (c .before .if6 .taken) _ (c .walk2 .ensures)
+walk-returns-7 t c = walks-two _ _ _ _ _ (c .before .before .before .before .before .before .before .before .before .before .before .before .before .if1 .left) _ (c .before .before .before .before .before .before .before .before .before .before .before .before .shape-at .ensures) _ (c .before .before .before .before .before .before .before .before .before .before .before .number .ensures) (c .before .before .before .before .before .before .before .before .before .before .if2 .left) _ (c .before .before .before .before .before .before .before .before .walk .ensures) (c .before .before .before .before .before .before .before .before .before .if3 .left) (c .before .before .before .before .before .before .before .if4 .left) _ _ (c .before .before .before .second .ensures) (c .before .before .before .before .before .first .given .1) (omega arith) (c .before .if6 .taken) _ (c .walk2 .ensures)
 
 walk-add-walk-3 : (t : ℕ) → walk-lts.Need-add-walk-3 (
   shape-at-reads.Asked,
@@ -288,7 +288,7 @@ walk-walk-requires-3 : (t : ℕ) → walk-lts.Need-walk-requires-3 (
   third-reads.Asked,
   third-reads.Learnt,
 ) (walk-at t) walk.Post
-walk-walk-requires-3 t c κs = let entry = c .before .before .before .before .before .before .before .before .before .before .before .before .before .before .before in omega (arith, entry .pre, deeper (entry .args .words .now) (entry .args .body) (entry .args .level) (entry .args .p) (entry .args .k) (c .before .before .before .before .before .before .before .before .before .before .before .before .if1 .left) _ (c .before .before .before .before .before .before .before .before .before .before .before .shape-at .ensures) _ (c .before .before .before .before .before .before .before .before .before .before .number .ensures) (c .before .before .before .before .before .before .before .before .before .if2 .left) (entry .pre .1 .1), within-b (entry .args .words .now) (entry .args .body) (entry .args .level) (entry .args .p) (entry .args .k) (c .before .before .before .before .before .before .before .before .before .before .before .before .if1 .left) _ (c .before .before .before .before .before .before .before .before .before .before .before .shape-at .ensures) _ (c .before .before .before .before .before .before .before .before .before .before .number .ensures) (c .before .before .before .before .before .before .before .before .before .if2 .left) _ (c .before .before .before .before .before .before .before .walk .ensures) (c .before .before .before .before .before .before .before .before .if3 .left) (c .before .before .before .before .before .before .if4 .left) _ _ (c .before .before .second .ensures) (c .before .before .before .before .first .given .1) (c .before .if5 .left))
+walk-walk-requires-3 t c κs = let entry = c .before .before .before .before .before .before .before .before .before .before .before .before .before .before .before in omega (arith, entry .pre, deeper (entry .args .words .now) (entry .args .body) (entry .args .level) (entry .args .p) (entry .args .k) (c .before .before .before .before .before .before .before .before .before .before .before .before .if1 .left) _ (c .before .before .before .before .before .before .before .before .before .before .before .shape-at .ensures) _ (c .before .before .before .before .before .before .before .before .before .before .number .ensures) (c .before .before .before .before .before .before .before .before .before .if2 .left) (entry .pre .1 .1), within-b (entry .args .words .now) (entry .args .body) (entry .args .level) (entry .args .p) (entry .args .k) (c .before .before .before .before .before .before .before .before .before .before .before .before .if1 .left) _ (c .before .before .before .before .before .before .before .before .before .before .before .shape-at .ensures) _ (c .before .before .before .before .before .before .before .before .before .before .number .ensures) (c .before .before .before .before .before .before .before .before .before .if2 .left) _ (c .before .before .before .before .before .before .before .walk .ensures) (c .before .before .before .before .before .before .before .before .if3 .left) (c .before .before .before .before .before .before .if4 .left) _ _ (c .before .before .second .ensures) (c .before .before .before .before .first .given .1) (omega arith))
 
 walk-enum-known-middle : (t : ℕ) → walk-lts.Need-enum-known-middle (
   shape-at-reads.Asked,
@@ -330,7 +330,7 @@ walk-returns-8 : (t : ℕ) → walk-lts.Need-returns-8 (
   third-reads.Asked,
   third-reads.Learnt,
 ) (walk-at t) walk.Post
-walk-returns-8 t c = walks-second _ _ _ _ _ (c .before .before .before .before .before .before .before .before .before .before .before .before .before .before .before .if1 .left) _ (c .before .before .before .before .before .before .before .before .before .before .before .before .before .before .shape-at .ensures) _ (c .before .before .before .before .before .before .before .before .before .before .before .before .before .number .ensures) (c .before .before .before .before .before .before .before .before .before .before .before .before .if2 .left) _ (c .before .before .before .before .before .before .before .before .before .before .walk .ensures) (c .before .before .before .before .before .before .before .before .before .before .before .if3 .left) (c .before .before .before .before .before .before .before .before .before .if4 .left) _ _ (c .before .before .before .before .before .second .ensures) (c .before .before .before .before .before .before .before .first .given .1) (c .before .before .before .before .if5 .left) (c .before .before .before .if6 .left) _ (c .before .before .walk3 .ensures) _ _ (c .enum-told2 .given .1)
+walk-returns-8 t c = walks-second _ _ _ _ _ (c .before .before .before .before .before .before .before .before .before .before .before .before .before .before .before .if1 .left) _ (c .before .before .before .before .before .before .before .before .before .before .before .before .before .before .shape-at .ensures) _ (c .before .before .before .before .before .before .before .before .before .before .before .before .before .number .ensures) (c .before .before .before .before .before .before .before .before .before .before .before .before .if2 .left) _ (c .before .before .before .before .before .before .before .before .before .before .walk .ensures) (c .before .before .before .before .before .before .before .before .before .before .before .if3 .left) (c .before .before .before .before .before .before .before .before .before .if4 .left) _ _ (c .before .before .before .before .before .second .ensures) (c .before .before .before .before .before .before .before .first .given .1) (omega arith) (c .before .before .before .if6 .left) _ (c .before .before .walk3 .ensures) _ _ (c .enum-told2 .given .1)
 
 walk-third-requires : (t : ℕ) → walk-lts.Need-third-requires (
   shape-at-reads.Asked,
@@ -358,7 +358,7 @@ walk-returns-9 : (t : ℕ) → walk-lts.Need-returns-9 (
   third-reads.Asked,
   third-reads.Learnt,
 ) (walk-at t) walk.Post
-walk-returns-9 t c = walks-c _ _ _ _ _ (c .before .before .before .before .before .before .before .before .before .before .before .before .before .before .before .before .before .before .if1 .left) _ (c .before .before .before .before .before .before .before .before .before .before .before .before .before .before .before .before .before .shape-at .ensures) _ (c .before .before .before .before .before .before .before .before .before .before .before .before .before .before .before .before .number .ensures) (c .before .before .before .before .before .before .before .before .before .before .before .before .before .before .before .if2 .left) _ (c .before .before .before .before .before .before .before .before .before .before .before .before .before .walk .ensures) (c .before .before .before .before .before .before .before .before .before .before .before .before .before .before .if3 .left) (c .before .before .before .before .before .before .before .before .before .before .before .before .if4 .left) _ _ (c .before .before .before .before .before .before .before .before .second .ensures) (c .before .before .before .before .before .before .before .before .before .before .first .given .1) (c .before .before .before .before .before .before .before .if5 .left) (c .before .before .before .before .before .before .if6 .left) _ (c .before .before .before .before .before .walk3 .ensures) _ _ (c .before .third .ensures) (c .before .before .before .middle .given .1) (c .if7 .taken)
+walk-returns-9 t c = walks-c _ _ _ _ _ (c .before .before .before .before .before .before .before .before .before .before .before .before .before .before .before .before .before .before .if1 .left) _ (c .before .before .before .before .before .before .before .before .before .before .before .before .before .before .before .before .before .shape-at .ensures) _ (c .before .before .before .before .before .before .before .before .before .before .before .before .before .before .before .before .number .ensures) (c .before .before .before .before .before .before .before .before .before .before .before .before .before .before .before .if2 .left) _ (c .before .before .before .before .before .before .before .before .before .before .before .before .before .walk .ensures) (c .before .before .before .before .before .before .before .before .before .before .before .before .before .before .if3 .left) (c .before .before .before .before .before .before .before .before .before .before .before .before .if4 .left) _ _ (c .before .before .before .before .before .before .before .before .second .ensures) (c .before .before .before .before .before .before .before .before .before .before .first .given .1) (omega arith) (c .before .before .before .before .before .before .if6 .left) _ (c .before .before .before .before .before .walk3 .ensures) _ _ (c .before .third .ensures) (c .before .before .before .middle .given .1) (λ e. omega (arith, e))
 
 walk-add-walk-4 : (t : ℕ) → walk-lts.Need-add-walk-4 (
   shape-at-reads.Asked,
@@ -386,7 +386,7 @@ walk-walk-requires-4 : (t : ℕ) → walk-lts.Need-walk-requires-4 (
   third-reads.Asked,
   third-reads.Learnt,
 ) (walk-at t) walk.Post
-walk-walk-requires-4 t c κs = let entry = c .before .before .before .before .before .before .before .before .before .before .before .before .before .before .before .before .before .before .before .before .before in omega (arith, entry .pre, deeper (entry .args .words .now) (entry .args .body) (entry .args .level) (entry .args .p) (entry .args .k) (c .before .before .before .before .before .before .before .before .before .before .before .before .before .before .before .before .before .before .if1 .left) _ (c .before .before .before .before .before .before .before .before .before .before .before .before .before .before .before .before .before .shape-at .ensures) _ (c .before .before .before .before .before .before .before .before .before .before .before .before .before .before .before .before .number .ensures) (c .before .before .before .before .before .before .before .before .before .before .before .before .before .before .before .if2 .left) (entry .pre .1 .1), within-c (entry .args .words .now) (entry .args .body) (entry .args .level) (entry .args .p) (entry .args .k) (c .before .before .before .before .before .before .before .before .before .before .before .before .before .before .before .before .before .before .if1 .left) _ (c .before .before .before .before .before .before .before .before .before .before .before .before .before .before .before .before .before .shape-at .ensures) _ (c .before .before .before .before .before .before .before .before .before .before .before .before .before .before .before .before .number .ensures) (c .before .before .before .before .before .before .before .before .before .before .before .before .before .before .before .if2 .left) _ (c .before .before .before .before .before .before .before .before .before .before .before .before .before .walk .ensures) (c .before .before .before .before .before .before .before .before .before .before .before .before .before .before .if3 .left) (c .before .before .before .before .before .before .before .before .before .before .before .before .if4 .left) _ _ (c .before .before .before .before .before .before .before .before .second .ensures) (c .before .before .before .before .before .before .before .before .before .before .first .given .1) (c .before .before .before .before .before .before .before .if5 .left) (c .before .before .before .before .before .before .if6 .left) _ (c .before .before .before .before .before .walk3 .ensures) _ _ (c .before .third .ensures) (c .before .before .before .middle .given .1) (c .if7 .left))
+walk-walk-requires-4 t c κs = let entry = c .before .before .before .before .before .before .before .before .before .before .before .before .before .before .before .before .before .before .before .before .before in omega (arith, entry .pre, deeper (entry .args .words .now) (entry .args .body) (entry .args .level) (entry .args .p) (entry .args .k) (c .before .before .before .before .before .before .before .before .before .before .before .before .before .before .before .before .before .before .if1 .left) _ (c .before .before .before .before .before .before .before .before .before .before .before .before .before .before .before .before .before .shape-at .ensures) _ (c .before .before .before .before .before .before .before .before .before .before .before .before .before .before .before .before .number .ensures) (c .before .before .before .before .before .before .before .before .before .before .before .before .before .before .before .if2 .left) (entry .pre .1 .1), within-c (entry .args .words .now) (entry .args .body) (entry .args .level) (entry .args .p) (entry .args .k) (c .before .before .before .before .before .before .before .before .before .before .before .before .before .before .before .before .before .before .if1 .left) _ (c .before .before .before .before .before .before .before .before .before .before .before .before .before .before .before .before .before .shape-at .ensures) _ (c .before .before .before .before .before .before .before .before .before .before .before .before .before .before .before .before .number .ensures) (c .before .before .before .before .before .before .before .before .before .before .before .before .before .before .before .if2 .left) _ (c .before .before .before .before .before .before .before .before .before .before .before .before .before .walk .ensures) (c .before .before .before .before .before .before .before .before .before .before .before .before .before .before .if3 .left) (c .before .before .before .before .before .before .before .before .before .before .before .before .if4 .left) _ _ (c .before .before .before .before .before .before .before .before .second .ensures) (c .before .before .before .before .before .before .before .before .before .before .first .given .1) (omega arith) (c .before .before .before .before .before .before .if6 .left) _ (c .before .before .before .before .before .walk3 .ensures) _ _ (c .before .third .ensures) (c .before .before .before .middle .given .1) (omega arith))
 
 walk-returns-10 : (t : ℕ) → walk-lts.Need-returns-10 (
   shape-at-reads.Asked,
@@ -400,7 +400,7 @@ walk-returns-10 : (t : ℕ) → walk-lts.Need-returns-10 (
   third-reads.Asked,
   third-reads.Learnt,
 ) (walk-at t) walk.Post
-walk-returns-10 t c = walks-three _ _ _ _ _ (c .before .before .before .before .before .before .before .before .before .before .before .before .before .before .before .before .before .before .before .if1 .left) _ (c .before .before .before .before .before .before .before .before .before .before .before .before .before .before .before .before .before .before .shape-at .ensures) _ (c .before .before .before .before .before .before .before .before .before .before .before .before .before .before .before .before .before .number .ensures) (c .before .before .before .before .before .before .before .before .before .before .before .before .before .before .before .before .if2 .left) _ (c .before .before .before .before .before .before .before .before .before .before .before .before .before .before .walk .ensures) (c .before .before .before .before .before .before .before .before .before .before .before .before .before .before .before .if3 .left) (c .before .before .before .before .before .before .before .before .before .before .before .before .before .if4 .left) _ _ (c .before .before .before .before .before .before .before .before .before .second .ensures) (c .before .before .before .before .before .before .before .before .before .before .before .first .given .1) (c .before .before .before .before .before .before .before .before .if5 .left) (c .before .before .before .before .before .before .before .if6 .left) _ (c .before .before .before .before .before .before .walk3 .ensures) _ _ (c .before .before .third .ensures) (c .before .before .before .before .middle .given .1) (c .before .if7 .left) _ (c .walk4 .ensures)
+walk-returns-10 t c = walks-three _ _ _ _ _ (c .before .before .before .before .before .before .before .before .before .before .before .before .before .before .before .before .before .before .before .if1 .left) _ (c .before .before .before .before .before .before .before .before .before .before .before .before .before .before .before .before .before .before .shape-at .ensures) _ (c .before .before .before .before .before .before .before .before .before .before .before .before .before .before .before .before .before .number .ensures) (c .before .before .before .before .before .before .before .before .before .before .before .before .before .before .before .before .if2 .left) _ (c .before .before .before .before .before .before .before .before .before .before .before .before .before .before .walk .ensures) (c .before .before .before .before .before .before .before .before .before .before .before .before .before .before .before .if3 .left) (c .before .before .before .before .before .before .before .before .before .before .before .before .before .if4 .left) _ _ (c .before .before .before .before .before .before .before .before .before .second .ensures) (c .before .before .before .before .before .before .before .before .before .before .before .first .given .1) (omega arith) (c .before .before .before .before .before .before .before .if6 .left) _ (c .before .before .before .before .before .before .walk3 .ensures) _ _ (c .before .before .third .ensures) (c .before .before .before .before .middle .given .1) (omega arith) _ (c .walk4 .ensures)
 
 pub +walk-spec : {M : Type 1} → statement M
 +walk-spec = close μ-walk λ t. walk-lts.spec (

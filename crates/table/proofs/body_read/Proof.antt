@@ -34,11 +34,11 @@ refuse-requires-2 c κs = search needs
 
 returns : tie.Need-returns
 unfolding rootOf
-returns c = rw (c .before .before .walked .given .1, eq-eqb _ _ (c .if1 .taken)) at (body-answer (c .before .before .before .before .before .before .before .before .args .words .now) (c .before .before .before .before .before .before .before .before .args .f) _ _ _ (c .before .before .before .before .before .before .before .before .pre .place) (c .before .before .before .before .before .before .nodes .ensures) (c .before .before .before .before .before .arity .ensures) _ (c .before .before .before .before .walk .ensures))
+returns c = rw (c .before .before .walked .given .1, eq-eqb (c .before .before .walked .given .0 .0) (c .before .before .before .before .before .before .nodes .result) (omega arith)) at (body-answer (c .before .before .before .before .before .before .before .before .args .words .now) (c .before .before .before .before .before .before .before .before .args .f) _ _ _ (c .before .before .before .before .before .before .before .before .pre .place) (c .before .before .before .before .before .before .nodes .ensures) (c .before .before .before .before .before .arity .ensures) _ (c .before .before .before .before .walk .ensures))
 
 returns-2 : tie.Need-returns-2
 unfolding rootOf
-returns-2 c = c .refuse .ensures ∙ (rw (c .before .before .before .walked .given .1, ne-eqb _ _ (c .before .if1 .left)) at (body-answer (c .before .before .before .before .before .before .before .before .before .args .words .now) (c .before .before .before .before .before .before .before .before .before .args .f) _ _ _ (c .before .before .before .before .before .before .before .before .before .pre .place) (c .before .before .before .before .before .before .before .nodes .ensures) (c .before .before .before .before .before .before .arity .ensures) _ (c .before .before .before .before .before .walk .ensures)))
+returns-2 c = c .refuse .ensures ∙ (rw (c .before .before .before .walked .given .1, ne-eqb (c .before .before .before .walked .given .0 .0) (c .before .before .before .before .before .before .before .nodes .result) (λ e. omega (arith, e))) at (body-answer (c .before .before .before .before .before .before .before .before .before .args .words .now) (c .before .before .before .before .before .before .before .before .before .args .f) _ _ _ (c .before .before .before .before .before .before .before .before .before .pre .place) (c .before .before .before .before .before .before .before .nodes .ensures) (c .before .before .before .before .before .before .arity .ensures) _ (c .before .before .before .before .before .walk .ensures)))
 
 returns-3 : tie.Need-returns-3
 unfolding rootOf
