@@ -14,7 +14,6 @@ import re
 import shutil
 import subprocess
 import threading
-import time
 from concurrent.futures import ThreadPoolExecutor
 
 ROOT = os.path.dirname(os.path.dirname(os.path.dirname(os.path.abspath(__file__))))
@@ -348,14 +347,12 @@ class Verdict:
     def __init__(self, log):
         self.proved = re.search(r"^logic=proved", log, re.M) is not None
         self.refused = re.search(r"^logic=not-proved", log, re.M) is not None
-        self.own, self.misread, self.unfit = {}, None, False
+        self.own, self.misread = {}, None
         for line in log.splitlines():
             if m := ERROR.match(line):
                 file, name, said = m.groups()
                 if "was not admitted (" in said:
                     continue
-                if not self.own and UNFIT in line:
-                    self.unfit = True
                 if not file.startswith("proofs/"):
                     self.misread = self.misread or f"{file}: {said}"
                 for refuser in proved_in(file) or [f"{file[len('proofs/'):-len('.antt')].replace('/', '.')}.{name}"]:
@@ -369,7 +366,7 @@ class Verdict:
             return "NOT REFUSED" if self.proved else "NO VERDICT"
         if self.misread:
             return f"REFUSED FOR ITS TEXT, and not by a proof: {self.misread[:200]}"
-        if self.unfit:
+        if any(UNFIT in self.own.get(n, "") for n in list(self.own)[:1] + edit.refused_by):
             return "REFUSED FOR ITS SHAPE: the proof file does not fit the code any more, which shows nothing"
         missing = [n for n in edit.refused_by if n not in self.own]
         if missing or not edit.refused_by:
@@ -414,16 +411,14 @@ class Workplace:
             shutil.copytree(os.path.join(rlib, "toolchain/checked"), os.path.join(kept, m.group(1).replace("/", "_")))
 
 
-def seconds_of(crate):
-    """How long the crate's proof took, by rt's line; 0 where it has none."""
-    path = os.path.join(ROOT, "target/log", f"{crate}.out")
-    m = re.search(rf"^rt: {crate} proved \((\d+) s\)", text_of(path) if os.path.exists(path) else "", re.M)
-    return int(m.group(1)) if m else 0
+def below(crate, uses):
+    """The crates that one uses, directly or not: the more, the longer it takes to load what they have."""
+    return set(uses.get(crate, [])).union(*(below(c, uses) for c in uses.get(crate, [])))
 
 
 def side_by_side(work, tasks, job):
-    """Does job(workplace, task) for each (crate, ..) of the tasks, those of slow crates first, as many at a time as there are processors."""
-    places, lock = [], threading.Lock()
+    """Does job(workplace, task) for each (crate, ..) of the tasks, those that take long first, as many at a time as there are processors."""
+    places, lock, uses = [], threading.Lock(), crates()
 
     def one(task):
         with lock:
@@ -435,7 +430,7 @@ def side_by_side(work, tasks, job):
                 places.append(place)
 
     with ThreadPoolExecutor(os.cpu_count() or 1) as pool:
-        list(pool.map(one, sorted(tasks, key=lambda t: -seconds_of(t[0]))))
+        list(pool.map(one, sorted(tasks, key=lambda t: -len(below(t[0], uses)))))
 
 
 def proved_as_it_stands():
