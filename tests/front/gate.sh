@@ -33,7 +33,7 @@ called 1
 tail -n "$((steps + 4))" "$work/out" | sed '$d' > "$work/rows"
 seen=$((seen + 1))
 [ "$(grep -c '^gate: *[0-9][0-9]* s  ' "$work/rows")" -eq "$((steps + 3))" ] || { wrong "the last lines are not the parts with their seconds, but:"; cat "$work/rows"; }
-for row in 'rt ci: [0-9]* crates' 'rt ci: [0-9]* must-fail edits' 'rt ci: the programs' $checks 'in all'; do
+for row in 'rt ci: [0-9]* crates' 'rt ci: [0-9]* checks of must-fail edits' 'rt ci: the programs' $checks 'in all'; do
     seen=$((seen + 1))
     grep -q "s  $row\$" "$work/rows" || wrong "no row of the seconds is for $row"
 done
