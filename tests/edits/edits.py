@@ -53,27 +53,51 @@ class Edit:
                 self.changes.append((file, old, line[4:].removeprefix(" ")))
         self.label = f"{self.crate}/{self.name}"
 
-    def change(self, texts, folder):
-        """Makes its changes in texts, a table of files, with those of the crate's folder where one is not there yet; what is wrong, if it cannot."""
-        changed = {}
-        for file, old, new in self.changes:
-            if not file or not os.path.isfile(os.path.join(folder, file)):
+
+IMPORT = re.compile(r"(use \S+\.)\{(.*)\}")
+
+
+def as_imported(text, old, new):
+    """The same change, where it adds names to an import to which another edit of the same check has added some: to the import as it is now."""
+    before, after = IMPORT.fullmatch(old or ""), IMPORT.fullmatch(new)
+    if not before or not after or before.group(1) != after.group(1):
+        return old, new
+    module, names = after.group(1), after.group(2).split(", ")
+    now = [line for line in text.splitlines() if line.startswith(module + "{")]
+    if len(now) != 1 or not set(before.group(2).split(", ")) <= set(names):
+        return old, new
+    there = IMPORT.fullmatch(now[0]).group(2).split(", ")
+    return now[0], module + "{" + ", ".join(there + [n for n in names if n not in there]) + "}"
+
+
+class Sources:
+    """The files of a crate with the changes of some edits."""
+
+    def __init__(self, crate):
+        self.folder, self.texts, self.made = os.path.join(ROOT, "crates", crate), {}, set()
+
+    def take(self, edit):
+        """Makes an edit's changes, but for those that another has made already; what is wrong, if one cannot be made: then none is."""
+        texts = dict(self.texts)
+        for file, old, new in edit.changes:
+            if (file, old, new) in self.made:
+                continue
+            if not file or not os.path.isfile(os.path.join(self.folder, file)):
                 return f"no file {file}"
-            text = changed.get(file) or texts.get(file) or text_of(os.path.join(folder, file))
+            text = texts.get(file) or text_of(os.path.join(self.folder, file))
+            old, new = as_imported(text, old, new)
             if not old or text.count(old) != 1:
                 return f"its text is not once in {file}: {old}"
-            changed[file] = text.replace(old, new)
-        texts.update(changed)
-        return None if changed else "it changes nothing"
+            texts[file] = text.replace(old, new)
+        if not edit.changes:
+            return "it changes nothing"
+        self.texts, self.made = texts, self.made | set(edit.changes)
+        return None
 
-    def apply(self, folder):
-        """Makes its changes in a crate's folder; what is wrong, if it cannot."""
-        texts = {}
-        wrong = self.change(texts, folder)
-        for file, text in texts.items():
+    def write(self, folder):
+        for file, text in self.texts.items():
             with open(os.path.join(folder, file), "w", encoding="utf-8") as f:
                 f.write(text)
-        return wrong
 
 
 def edits_in(path):
@@ -309,19 +333,19 @@ class Mentions:
 def independent(crate, some):
     """Groups of edits such that none touches what refuses another, bodies of different functions or what different theorems rest on, and all of a group
     can be applied one after the other."""
-    mentions, folder, groups = Mentions(crate), os.path.join(ROOT, "crates", crate), []
+    mentions, groups = Mentions(crate), []
     for edit in some:
         touched = mentions.touched(edit)
         seen = set().union(*(mentions.closure(name) for name in edit.refused_by))
-        for group, texts in groups:
+        for group, sources in groups:
             apart = touched is not None and all(t is not None and not t & seen and not touched & s for _, t, s in group)
-            if apart and edit.change(texts, folder) is None:
+            if apart and sources.take(edit) is None:
                 group.append((edit, touched, seen))
                 break
         else:
-            texts = {}
-            edit.change(texts, folder)
-            groups.append(([(edit, touched, seen)], texts))
+            sources = Sources(crate)
+            sources.take(edit)
+            groups.append(([(edit, touched, seen)], sources))
     return [[edit for edit, _, _ in group] for group, _ in groups]
 
 
@@ -390,17 +414,17 @@ class Workplace:
 
     def check(self, crate, some):
         """What `rt dev` says of the crate with these edits: its log, or why one of them cannot be applied."""
-        source, copy = os.path.join(ROOT, "crates", crate), os.path.join(self.folder, "crates", crate)
+        copy, sources = os.path.join(self.folder, "crates", crate), Sources(crate)
+        for edit in some:
+            if wrong := sources.take(edit):
+                return f"{edit.label}: BAD EDIT: {wrong}"
         self.take_modules(crate)
         try:
-            for edit in some:
-                if wrong := edit.apply(copy):
-                    return f"{edit.label}: BAD EDIT: {wrong}"
-            done = subprocess.run(["rt", "dev", crate], cwd=self.folder, stdout=subprocess.PIPE, stderr=subprocess.STDOUT, text=True)
-            return done.stdout
+            sources.write(copy)
+            return subprocess.run(["rt", "dev", crate], cwd=self.folder, stdout=subprocess.PIPE, stderr=subprocess.STDOUT, text=True).stdout
         finally:
             shutil.rmtree(copy)
-            shutil.copytree(source, copy)
+            shutil.copytree(sources.folder, copy)
 
     def take_modules(self, crate):
         """The modules that `rt` checked when it built the crate's library become what `rt dev` has checked before. Where they are not to be had,
@@ -429,7 +453,7 @@ def side_by_side(work, tasks, job):
             with lock:
                 places.append(place)
 
-    with ThreadPoolExecutor(os.cpu_count() or 1) as pool:
+    with ThreadPoolExecutor(len(os.sched_getaffinity(0))) as pool:
         list(pool.map(one, sorted(tasks, key=lambda t: -len(below(t[0], uses)))))
 
 
