@@ -280,12 +280,12 @@ def declarations(text):
 
 
 class Mentions:
-    """What each function and each declaration of a crate mentions, as far as words tell: more than it rests on, never less."""
+    """What each function and each declaration of a crate mentions, as far as words tell, which is more than it rests on."""
 
     def __init__(self, crate):
         self.crate, self.known, self.words, self.named, self.places, self.by_file = crate, all_functions(), {}, {}, {}, set()
         folder = os.path.join(ROOT, "crates", crate)
-        for path in sorted(glob.glob(os.path.join(folder, "specs/**/*.antt"), recursive=True) + glob.glob(os.path.join(folder, "proofs/**/*.antt"), recursive=True)):
+        for path in sorted(p for part in ("specs", "proofs") for p in glob.glob(os.path.join(folder, part, "**/*.antt"), recursive=True)):
             file = os.path.relpath(path, folder)
             of_function = proved_in(file)
             self.by_file.update(of_function)
@@ -319,15 +319,30 @@ class Mentions:
                 todo += [k for w in self.words.get(key, ()) for k in self.named.get(w, ())]
         return seen
 
+    def declared_at(self, file, first, last):
+        return {key for lines, key in self.places.get(file, []) if any(n in lines for n in range(first, last + 1))}
+
     def touched(self, edit):
         """The functions whose bodies it changes and the declarations that it changes; None where it changes more of the code than bodies."""
         bodies, more = touched_functions(edit)
         keys = {("fn", name) for name in bodies}
         for file, old, new in edit.changes:
             if not file.startswith("src/"):
-                first, last = lines_of(text_of(os.path.join(ROOT, "crates", edit.crate, file)), old)
-                keys |= {key for lines, key in self.places.get(file, []) if any(n in lines for n in range(first, last + 1))}
+                keys |= self.declared_at(file, *lines_of(text_of(os.path.join(ROOT, "crates", edit.crate, file)), old))
         return None if more else keys
+
+    def place(self, edit):
+        """The functions, bodies or contracts, and the declarations that it changes; what stands in none by its line."""
+        keys = set()
+        for file, old, new in edit.changes:
+            text = text_of(os.path.join(ROOT, "crates", edit.crate, file))
+            first, last = lines_of(text, old)
+            if file.startswith("src/"):
+                within = {("fn", f.name) for f in functions_of(edit.crate, text) if f.line <= first and last <= f.end}
+            else:
+                within = self.declared_at(file, first, last)
+            keys |= within or {(file, first)}
+        return keys
 
 
 def independent(crate, some):

@@ -21,6 +21,10 @@ with "$edit" '/^# no twin/d'
 ends 1 tests/edits/forms
 wrote out "$edit: no_nodes needs a twin in tests/twins, or a line '# no twin: REASON', and not both"
 back "$edit"
+with tests/twins/table/body_runs_on.edit 's/^old: .*/old: if 64 < functions {/; s/^new: .*/new: if functions > 64 {/'
+ends 1 tests/edits/forms
+wrote out 'tests/twins/table/body_runs_on.edit: it is of another place than its edit'
+back tests/twins/table/body_runs_on.edit
 # code that no function reaches which users call
 printf '\npub fn spare() -> u64\n    ensures { λ r. ⌜ r ≡ 4711 ⌝ }\n{\n    4711\n}\n' >> crates/table/src/lib.rt
 printf '# Nobody calls it.\n# refused by: spare\n# no twin: a trial\nfile: src/lib.rt\nold: r ≡ 4711\nnew: r ≡ 4712\n' > tests/edits/table/spare.edit
