@@ -280,7 +280,7 @@ def declarations(text):
 
 
 class Mentions:
-    """What each function and each declaration of a crate mentions, as far as words tell, which is more than it rests on."""
+    """What each function and each declaration of a crate mentions, as far as words tell; no proof that it rests on nothing else."""
 
     def __init__(self, crate):
         self.crate, self.known, self.words, self.named, self.places, self.by_file = crate, all_functions(), {}, {}, {}, set()

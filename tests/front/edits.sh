@@ -8,18 +8,12 @@ with() { cp "$top/$1" "$1"; sed -i "$2" "$1"; }
 back() { for file; do cp "$top/$file" "$file"; done; }
 
 ends 0 tests/edits/forms
-with "$edit" '/^# refused by/d'
-ends 1 tests/edits/forms
-wrote out "$edit: no_nodes has no line '# refused by: NAME'"
-with "$edit" 's/^# refused by: .*/# refused by: no_such_function/'
-ends 1 tests/edits/forms
-wrote out "$edit: no_nodes: no_such_function is neither a function of table nor a declaration of its proofs"
-with "$edit" 's/^old: .*/old: words/'
-ends 1 tests/edits/forms
-wrote out "$edit: no_nodes: its text is not once in src/lib.rt: words"
-with "$edit" '/^# no twin/d'
-ends 1 tests/edits/forms
-wrote out "$edit: no_nodes needs a twin in tests/twins, or a line '# no twin: REASON', and not both"
+# SCRIPT TEXT: with the edit so changed, forms fails and says so
+told() { with "$edit" "$1"; ends 1 tests/edits/forms; wrote out "$edit: $2"; }
+told '/^# refused by/d' "no_nodes has no line '# refused by: NAME'"
+told 's/^# refused by: .*/# refused by: no_such_function/' 'no_nodes: no_such_function is neither a function of table nor a declaration of its proofs'
+told 's/^old: .*/old: words/' 'no_nodes: its text is not once in src/lib.rt: words'
+told '/^# no twin/d' "no_nodes needs a twin in tests/twins, or a line '# no twin: REASON', and not both"
 back "$edit"
 with tests/twins/table/body_runs_on.edit 's/^old: .*/old: if 64 < functions {/; s/^new: .*/new: if functions > 64 {/'
 ends 1 tests/edits/forms
