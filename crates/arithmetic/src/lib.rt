@@ -3,6 +3,8 @@
 // `operate` answers for each operation as `computed` of specs/Operate.antt says. Nothing here is wider than 64 bits: whether a sum or
 // a product fits is asked before it is made.
 
+#![tactic(auto)]
+
 ghost use Rattle.std.specs.Prelude.{◌≡◌};
 ghost use Rattle.table.specs.declared.Operation.TheVariants.{Add, Subtract, Multiply, Divide, Remainder, Less, Equal};
 ghost use Rattle.arithmetic.specs.Operate.{computed};
@@ -10,7 +12,7 @@ ghost use Rattle.arithmetic.specs.Operate.{computed};
 use table::Operation;
 
 // A result, or the number of document 01's stop.
-#[derive(Drop)]
+#[derive(Clone, Copy)]
 pub enum Computed {
     Is(u64),
     Fails(u32),

@@ -4,6 +4,8 @@
 // more. `mondupil_run_graph` does the same with a buffer lent for the run's cost graph, and tells the number of words written in a tenth. What
 // they tell, for any input, and what they leave in the buffers that they are lent, is defined in specs/.
 
+#![tactic(auto)]
+
 ghost use Rattle.std.specs.Prelude.{◌≡◌, length};
 ghost use Rattle.machine.specs.Workspace.{left_by};
 ghost use Rattle.capi.specs.Words.{answer_words, written};

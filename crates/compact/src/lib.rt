@@ -1,5 +1,7 @@
 // The registers of a run by one counter, and single steps by them.
 
+#![tactic(auto)]
+
 ghost use Rattle.std.specs.Prelude.{◌≡◌, true, ◌&&◌, ◌+◌, ◌<◌, ◌≤◌, ◌^◌, max, ltb, leb};
 ghost use Rattle.moves.specs.Ready.{Framed, Paid, Opened};
 ghost use Rattle.compact.specs.Compact.{full, step_of, limit_of, Paced, PacedBy, compact_of, settled_of, Settles, Forkless, kept_by, freed_by, Transits, later_of, Small, Roomy};
@@ -9,7 +11,7 @@ use moves::{Control, Plan, Registers, Step, Stopped};
 use schedule::{Credits, Span};
 
 // The registers of a run by one counter. Credits and span are told by the transitions since the running machine's start.
-#[derive(Drop)]
+#[derive(Clone, Copy)]
 pub struct Compact {
     pub control: Control,
     // The frames that are occupied, and the most that were at once.
@@ -27,7 +29,7 @@ pub struct Compact {
 }
 
 // What a free move changes in the cost graph, with its frame: a fork begins, by a promotion or promoted at its birth; its left graph ends; both end.
-#[derive(Drop)]
+#[derive(Clone, Copy)]
 pub enum Event {
     Fork(usize),
     Turn(usize),
@@ -36,7 +38,7 @@ pub enum Event {
 
 // Why no stride is made: the limit is reached; a promotion is due; a fork that is promoted at its birth is next; a value arrives at a promoted
 // fork, which awaits its left or its right.
-#[derive(Drop)]
+#[derive(Clone, Copy)]
 pub enum Pause {
     Limit,
     Promotion,
@@ -46,7 +48,7 @@ pub enum Pause {
 }
 
 // What a stride comes to: registers to go on with after transitions, or after a free move with its event; a pause; a value or a stop.
-#[derive(Drop)]
+#[derive(Clone, Copy)]
 pub enum Progress {
     Go(Compact),
     Free(Compact, Event),

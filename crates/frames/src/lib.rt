@@ -17,6 +17,8 @@
 //
 // The words b + 7 and b + 29 to b + 31 are not used. What a kind means, and where each frame begins, is the machine's affair.
 
+#![tactic(auto)]
+
 ghost use Rattle.std.specs.Prelude.{◌≡◌, ◌+◌, ◌<◌, ◌≤◌, length, drop, replicate};
 ghost use Rattle.std.proofs.Math.Seq.{paste};
 ghost use Rattle.frames.specs.Frames.{locals_word, arguments_word, frame_kind, frame_value, frame_before, frame_left, frame_place_at, frame_right, seat_at, saved, pushed, turned, collected, marked, placed, right_placed, loaded, appended};
@@ -47,7 +49,7 @@ const PLACE: usize = 27;
 const RIGHT: usize = 28;
 
 // Where a frame's node stands, with how many locals are bound there.
-#[derive(Drop)]
+#[derive(Clone, Copy)]
 pub struct Seat {
     pub function: usize,
     pub node: usize,

@@ -4,6 +4,8 @@
 // many words there are so far, n, the transitions of the last stretch, k, and for each open fork the place of its three words. Words that do not fit
 // are counted and not written. What each function leaves is defined in specs/Writing.antt.
 
+#![tactic(auto)]
+
 ghost use Rattle.std.specs.Prelude.{◌≡◌, ◌++◌, ◌+◌, ◌-◌, ◌≤◌, ◌<◌, ◌^◌, length, take, replicate};
 ghost use Rattle.graph.specs.Writing.{count_ended, stretched, lent_ended, lent_forked, lent_filled};
 

@@ -1,12 +1,14 @@
 // What a machine answers that is lent a buffer for its cost graph (document 02, P1).
 
+#![tactic(auto)]
+
 ghost use Rattle.std.specs.Prelude.{◌≡◌};
 ghost use Rattle.graph_answers.specs.Fitted.{fitted_of};
 
 use language::{Answer, Stop};
 
 // The answer, and the number of words written.
-#[derive(Drop)]
+#[derive(Clone, Copy)]
 pub struct Graphed {
     pub answer: Answer,
     pub words: usize,

@@ -3,6 +3,8 @@
 // `checked` tries document 01's refusals 1 to 11, and document 02's 16 to 18, in their order. Here are the types that a machine takes and
 // gives; the language and what a machine answers are the definitions of specs/.
 
+#![tactic(auto)]
+
 ghost use Rattle.std.specs.Prelude.{◌≡◌, ◌↔◌, ◌<◌};
 ghost use Rattle.table.specs.Read.{refused};
 ghost use Rattle.language.specs.Checks.{range_of, workspace_of, settings_of, checked_of};
@@ -13,7 +15,7 @@ use schedule::{Fuel, Span, Work};
 use table::{Reading, Refusal};
 
 // 01: "The counts are transitions, forks, work and span." 02, P7: they gain "the largest number of frames occupied at once", the depth.
-#[derive(Drop)]
+#[derive(Clone, Copy)]
 pub struct Counts {
     pub transitions: u64,
     pub forks: u64,
@@ -23,7 +25,7 @@ pub struct Counts {
 }
 
 // 01, "Stopped by the run's state": "The answer is the number, function, node and transitions made." 02, P7: and the depth reached.
-#[derive(Drop)]
+#[derive(Clone, Copy)]
 pub struct Stop {
     pub number: u32,
     pub function: usize,
@@ -33,7 +35,7 @@ pub struct Stop {
 }
 
 // What a machine answers: a value with its counts, a stop with its place, or a refusal of the input.
-#[derive(Drop)]
+#[derive(Clone, Copy)]
 pub enum Answer {
     Value(u64, Counts),
     Stopped(Stop),
@@ -41,7 +43,7 @@ pub enum Answer {
 }
 
 // What a machine is given beside table, arguments and workspace: the fuel, N and τ.
-#[derive(Drop)]
+#[derive(Clone, Copy)]
 pub struct Settings {
     pub fuel: Fuel,
     pub period: u64,

@@ -2,6 +2,8 @@
 //
 // Each function writes one text from a byte on, and answers where it ends; what it writes is defined in specs/Lines.antt.
 
+#![tactic(auto)]
+
 ghost use Rattle.std.specs.Prelude.{◌≡◌, ◌++◌, ◌+◌, ◌%◌, ◌≤◌, length};
 ghost use Rattle.language.specs.Values.{SpanPositive, WorkAtMost};
 ghost use Rattle.lines.specs.Lines.{decimal, refusal_line, depth_field, value_line, stop_line, answer_line, breadth_of, decimals, quotient_line, breadth_line, report_lines};
@@ -15,8 +17,9 @@ fn put(out: &mut [u8], at: usize, text: &[u8]) -> usize
     requires { at + length text.now ≤ length out.old }
     ensures { Wrote out.old at text.now out.new result }
 {
-    bytes::copy(text, &mut out[at..]);
-    at + text.len()
+    let end = at + text.len();
+    out[at..end].copy_from_slice(text);
+    end
 }
 
 // Writes a word and a number after it.

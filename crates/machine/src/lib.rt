@@ -8,6 +8,8 @@
 // (document 02, P1). What they answer and leave in the buffer is defined in crate `graph_answers` (specs/Answers.antt). A run without a buffer
 // is the same run with an empty one, and 25 is not looked at.
 
+#![tactic(auto)]
+
 ghost use Rattle.std.specs.Prelude.{◌≡◌, ◌+◌, ◌*◌, ◌/◌, ◌≤◌, ◌<◌, ◌^◌, length, take};
 ghost use Rattle.table.specs.Read.{starts_of};
 ghost use Rattle.language.specs.Answers.{counts_of, stopped, sequential_of, parallel_of, heartbeat_of};
@@ -36,7 +38,7 @@ use table::Reading;
 const NEVER: u64 = 18446744073709551615;
 
 // The answers of the three machines to one input.
-#[derive(Drop)]
+#[derive(Clone, Copy)]
 pub struct Answers {
     pub sequential: Answer,
     pub parallel: Answer,
@@ -44,7 +46,7 @@ pub struct Answers {
 }
 
 // The same with a buffer lent to each.
-#[derive(Drop)]
+#[derive(Clone, Copy)]
 pub struct GraphedAnswers {
     pub sequential: Graphed,
     pub parallel: Graphed,
@@ -52,14 +54,14 @@ pub struct GraphedAnswers {
 }
 
 // Where strides come to no more: the registers then, and the step that is none.
-#[derive(Drop)]
+#[derive(Clone, Copy)]
 struct Reached {
     registers: Compact,
     step: Progress,
 }
 
 // A free move with the number of words after it, or what ends the run.
-#[derive(Drop)]
+#[derive(Clone, Copy)]
 struct Moved {
     step: Progress,
     words: usize,

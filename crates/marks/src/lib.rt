@@ -3,6 +3,8 @@
 // n is the number of words so far, and `made` the transitions since the last of them. Where no word is lent nothing is written and nothing is kept, so
 // that a run without a buffer has one test more for a free move, and none for a transition.
 
+#![tactic(auto)]
+
 ghost use Rattle.std.specs.Prelude.{◌≡◌, ◌<◌, length};
 ghost use Rattle.graph.specs.Writing.{count_ended, lent_ended};
 ghost use Rattle.marks.specs.Marks.{Small, Markable, Marked};

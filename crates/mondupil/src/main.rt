@@ -2,6 +2,8 @@
 //
 // It reads up to one byte more than the longest input, so that a longer one is told by its length. What is written is `report`'s affair.
 
+#![tactic(auto)]
+
 fn main() {
     let mut input = [0u8; 65537];
     let mut workspace = [0u64; 8192];

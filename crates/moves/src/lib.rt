@@ -1,5 +1,7 @@
 // One move of the flat machine under a schedule, with its frames in a lent workspace.
 
+#![tactic(auto)]
+
 ghost use Rattle.std.specs.Prelude.{◌≡◌, false, ◌&&◌, ◌+◌, ◌*◌, ◌/◌, ◌<◌, ◌≤◌, ◌^◌, max, length, ltb, leb};
 ghost use Rattle.table.specs.Words.{arity_at};
 ghost use Rattle.table.specs.Read.{starts_of};
@@ -36,14 +38,14 @@ pub const PROMOTED_RIGHT: u64 = 8;
 pub const NO_FORK: usize = 4096;
 
 // A node of a function with its number of locals, or a value that returns.
-#[derive(Drop)]
+#[derive(Clone, Copy)]
 pub enum Control {
     Eval(usize, usize, usize),
     Ret(u64),
 }
 
 // What a run carries beside its workspace and its locals.
-#[derive(Drop)]
+#[derive(Clone, Copy)]
 pub struct Registers {
     pub control: Control,
     // The frames that are occupied.
@@ -59,7 +61,7 @@ pub struct Registers {
 }
 
 // A schedule by its two flags, with the run's settings. A period above the fuel is never reached.
-#[derive(Drop)]
+#[derive(Clone, Copy)]
 pub struct Plan {
     pub birth: bool,
     pub period: u64,
@@ -68,7 +70,7 @@ pub struct Plan {
 }
 
 // The number of a stop, with its function and node.
-#[derive(Drop)]
+#[derive(Clone, Copy)]
 pub struct Stopped {
     pub number: u32,
     pub function: usize,
@@ -76,7 +78,7 @@ pub struct Stopped {
 }
 
 // What a move, or an operation, comes to.
-#[derive(Drop)]
+#[derive(Clone, Copy)]
 pub enum Step {
     Go(Registers),
     Value(u64),

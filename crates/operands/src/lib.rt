@@ -1,6 +1,8 @@
 // Simple operands by their words: a constant, a local, or an arithmetic of two of these. Each function is given the word at which the node
 // stands.
 
+#![tactic(auto)]
+
 ghost use Rattle.std.specs.Prelude.{◌≡◌, ◌+◌, ◌*◌, ◌≤◌};
 ghost use Rattle.arithmetic.specs.Operate.{computed};
 ghost use Rattle.operands.specs.Operands.{numbered, leaf_at, cost_at, frames_of, both_of, simple_at, LeafAt, SimpleAt, CostAt};

@@ -3,6 +3,8 @@
 // `report` reads a job from bytes, runs it on all three machines in a lent workspace, and writes the lines to a lent buffer. What it
 // writes and leaves, for any input, is defined in specs/: Input.antt (what the bytes say) and Report.antt; the lines are those of crate `lines`.
 
+#![tactic(auto)]
+
 ghost use Rattle.std.specs.Prelude.{◌≡◌, ◌+◌, ◌*◌, ◌≤◌, ◌<◌, length, get_or, drop};
 ghost use Rattle.std.proofs.Math.Seq.{paste};
 ghost use Rattle.io.specs.Counts.{IsPrefixLen as ByteCount};

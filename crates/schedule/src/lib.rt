@@ -1,9 +1,12 @@
 // The counts that a machine carries, each of a type of its own. 01: "Credits, fuel, work and span are separate counts, and none may stand
 // in for another". Their sums are those of the cost algebra of spans (specs/Algebra.antt) and of the machine (specs/Machine.antt).
+
+#![tactic(auto)]
+
 ghost use Rattle.std.specs.Prelude.{◌≡◌, ◌+◌, ◌*◌, ◌≤◌, ◌<◌, ◌^◌, max, leb};
 
 // The transitions of the running machine since it started.
-#[derive(Drop)]
+#[derive(Clone, Copy)]
 pub struct Credits(pub u64);
 
 impl Credits {
@@ -31,11 +34,11 @@ impl Credits {
 }
 
 // The transitions that a run may make.
-#[derive(Drop)]
+#[derive(Clone, Copy)]
 pub struct Fuel(pub u64);
 
 // The span of a graph.
-#[derive(Drop)]
+#[derive(Clone, Copy)]
 pub struct Span(pub u64);
 
 impl Span {
@@ -68,7 +71,7 @@ impl Span {
 }
 
 // The work of a graph.
-#[derive(Drop)]
+#[derive(Clone, Copy)]
 pub struct Work(pub u64);
 
 impl Work {

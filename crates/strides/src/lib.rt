@@ -5,6 +5,8 @@
 // is written for it. That is a stride. It is made where there is fuel for all of it, its frames were occupied before, and no promotion comes due
 // within; else, and where an operation fails, one step is made, so that every stop stays where it is and only a step raises the depth.
 
+#![tactic(auto)]
+
 ghost use Rattle.std.specs.Prelude.{◌≡◌, cond, ◌+◌, ◌*◌, ◌/◌, ◌<◌, ◌≤◌, length, get_or, eqb};
 ghost use Rattle.table.specs.Words.{arity_at};
 ghost use Rattle.table.specs.Read.{starts_of};

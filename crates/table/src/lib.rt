@@ -3,6 +3,8 @@
 // `read` tries the refusals 1 to 3 on the contents, then walks the bodies for 4, 5, 6, 16, 17 and 18. The rest of the public
 // functions read an accepted table, each in constant time but `starts`, which a run calls once.
 
+#![tactic(auto)]
+
 ghost use Rattle.std.specs.Prelude.{◌≡◌, ◌&&◌, ◌↔◌, ◌+◌, ◌*◌, ◌<◌, ◌≤◌, length, eqb};
 ghost use Rattle.table.specs.Words.{functions, arity_at, nodes_at, nodes_before, a_at, b_at, c_at};
 ghost use Rattle.table.specs.Nodes.{arithmetic_of, node_of, node_at};
@@ -11,7 +13,7 @@ ghost use Rattle.table.specs.Read.{refused, header, entry, contents, body_read, 
 ghost use Rattle.table.specs.WellFormed.{Header, Contents, Located, WellFormed};
 
 // 01, "Turned away by the input": the answer is the number with function and node.
-#[derive(Drop)]
+#[derive(Clone, Copy)]
 pub struct Refusal {
     pub number: u32,
     pub function: usize,
@@ -19,14 +21,14 @@ pub struct Refusal {
 }
 
 // The reader's answer.
-#[derive(Drop)]
+#[derive(Clone, Copy)]
 pub enum Reading {
     Accepted,
     Refused(Refusal),
 }
 
 // 01, "Operations", in the order of their numbers 0 to 6.
-#[derive(Drop)]
+#[derive(Clone, Copy)]
 pub enum Operation {
     Add,
     Subtract,
@@ -38,7 +40,7 @@ pub enum Operation {
 }
 
 // A node by its tag. The first child is the next node; the positions here are those of the second and the third.
-#[derive(Drop)]
+#[derive(Clone, Copy)]
 pub enum Node {
     Constant(u64),
     Local(usize),
@@ -52,14 +54,14 @@ pub enum Node {
 }
 
 // Where a function's body stands: its first word, and its nodes.
-#[derive(Drop)]
+#[derive(Clone, Copy)]
 pub struct Body {
     pub start: usize,
     pub nodes: usize,
 }
 
 // What the walk looks at in a node's own words.
-#[derive(Drop)]
+#[derive(Clone, Copy)]
 pub struct Shape {
     // The tag, the operation and the function are known.
     pub known: bool,
@@ -73,7 +75,7 @@ pub struct Shape {
 }
 
 // Where the walk of a subtree ends: at the position after it, or at a fault, with its number and the node that is told.
-#[derive(Drop)]
+#[derive(Clone, Copy)]
 pub enum Walked {
     End(usize),
     Fault(u32, usize),

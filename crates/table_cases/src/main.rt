@@ -1,12 +1,14 @@
 // Reads a job table a line from standard input, a label up to a colon and then the words in decimal, and writes the label with what
 // the reader answers. The answers in the file stdout were worked out from documents 01 and 02.
 
+#![tactic(auto)]
+
 ghost use Rattle.std.specs.Prelude.{◌≡◌, ◌+◌, ◌≤◌, ◌<◌, length};
 
 use table::Reading;
 
 // The words of a line so far, and the number that is being read, if one is.
-#[derive(Drop)]
+#[derive(Clone, Copy)]
 struct Scan {
     words: usize,
     number: u64,
