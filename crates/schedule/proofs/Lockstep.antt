@@ -91,6 +91,7 @@ module _ (K : CostAlgebra) (M : FrameMachine) (fuel frames : ℕ) (z : Ending) (
           goes true kept (forks_freely e (omega (arith, length_erase S))) r (omega (arith, length_erase S)) p
       follow false (evaluate c) S kept (forks e l i) r a p =
           goes false kept (forks e (omega arith) (omega (arith, length_erase S))) r (omega (arith, length_erase S)) p
+      follow born (return v) [] kept {credits = credits} {cost = cost} {counts = counts} {u = u} mv r a p = elim mv [ ]
       follow born (return v) (ordinary f ∷ S) kept (closes e l) r a p = goes born kept (closes e (omega arith)) r (omega arith) p
       follow born (return v) (ordinary f ∷ S) kept (keeps_frame e l) r a p = goes born kept (keeps_frame e (omega arith)) r (omega arith) p
       follow born (return v) (plain_left b ∷ S) kept (turns l) r a p = goes born kept (turns (omega arith)) r (omega arith) p
@@ -109,6 +110,11 @@ module _ (K : CostAlgebra) (M : FrameMachine) (fuel frames : ℕ) (z : Ending) (
         stuck_here (evaluate c) S a (no_fork_frame e l r) =
             no_fork_frame {born = born} {S = S} {t = t} e (λ q. omega (arith, l refl)) (omega (arith, length_erase S))
         stuck_here (return v) (ordinary f ∷ S) a (at_frame e l) = at_frame {t = t} e (omega arith)
+        stuck_here (return v) [] {credits = credits} {i = i} {cost = cost} {counts = counts} {p = p} a x3 = elim x3 [ ]
+        stuck_here (return v) (plain_left _ ∷ S) {credits = credits} {i = i} {cost = cost} {counts = counts} {p = p} a x7 = elim x7 [ ]
+        stuck_here (return v) (plain_right _ _ ∷ S) {credits = credits} {i = i} {cost = cost} {counts = counts} {p = p} a x9 = elim x9 [ ]
+        stuck_here (return v) (promoted_left _ _ ∷ S) {credits = credits} {i = i} {cost = cost} {counts = counts} {p = p} a x10 = elim x10 [ ]
+        stuck_here (return v) (promoted_right _ _ _ _ ∷ S) {credits = credits} {i = i} {cost = cost} {counts = counts} {p = p} a x13 = elim x13 [ ]
 
         -- A value with no frame left, in both.
         value_here : (v : ℕ) → z ≡ value v → Against {Cost = K.Cost} {Frame = M.Frame} {Fork = M.Fork} born [] t t'

@@ -59,7 +59,8 @@ module _ (τ u w a : ℕ) where
   Φ-level p c x p' c' x' [] A e h = omega arith
   Φ-level p c x p' c' x' (ordinary f ∷ S) A e h = Φ-level p c x p' c' x' S A e h
   Φ-level p c x p' c' x' (plain_left b ∷ S) A e h = absurd (true≢false e)
-  Φ-level p c x p' c' x' (plain_right b v ∷ S) A e h = Φ-level p c _ p' c' _ S (older A) e (omega arith)
+  Φ-level p c x p' c' x' (plain_right b v ∷ S) A e h =
+      Φ-level p c (u + x + w * after_span A) p' c' (u + x' + w * after_span A) S (older A) e (omega arith)
   Φ-level p c x p' c' x' (promoted_left g b ∷ S) A e h =
       Φ-mono 0 (u * span τ g) _ 0 (u * span τ g) _ S (older A) (omega arith) (omega arith)
   Φ-level p c x p' c' x' (promoted_right g l b v ∷ S) A e h =

@@ -121,6 +121,7 @@ module _ (w : List ℕ) (body : Body) where
     arithmetic_of_lem (suc (suc (suc (suc zero)))) b (arithmetic s t) = (Remainder, refl, s, t)
     arithmetic_of_lem (suc (suc (suc (suc (suc zero))))) b (arithmetic s t) = (Less, refl, s, t)
     arithmetic_of_lem (suc (suc (suc (suc (suc (suc zero)))))) b (arithmetic s t) = (Equal, refl, s, t)
+    arithmetic_of_lem (suc (suc (suc (suc (suc (suc (suc _))))))) b x14 = elim x14 [ ]
 
     choose_of : {b c : ℕ} → Assured w body level p k q (Choose b c) → Subtree w body (level + 1) (p + 1) k b × Subtree w body (level + 1) b k c × Subtree w body (level + 1) c k q
     choose_of (choose s t u) = (s, t, u)
