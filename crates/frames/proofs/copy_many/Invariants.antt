@@ -1,0 +1,13 @@
+-- `frames::copy_many` meets its contract. The loop's invariant: the first i words are copied, and `dst` has kept its length.
+-- The measure is how many are left. Assumes nothing.
+use lib.Seq.{paste}
+use lib.ListN.{length, drop}
+use Prim.Native.Nat.{◌≤◌, ◌-◌}
+use mathlib.Core.Path.{◌≡◌}
+use Rattle.frames.proofs.copy_many.Given as goal
+
+abbrev pub invariant-loop-i : goal.invariant-loop-i
+invariant-loop-i l = (l.i ≤ l.n) × (l.dst ≡ paste l.initial.dst l.at (drop l.from l.src) l.i) × (length l.dst ≡ length l.initial.dst)
+
+abbrev pub decreases-loop-i : goal.decreases-loop-i
+decreases-loop-i l = l.n - l.i
