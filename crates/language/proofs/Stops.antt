@@ -17,7 +17,7 @@ use Rattle.table.specs.declared.Node.TheVariants.{Constant, Local, Arithmetic, C
 use Rattle.table.specs.Words.{functions, arity_at, nodes_at, start_of, body_at, tag_at, a_at, b_at, c_at}
 use Rattle.table.specs.Nodes.{node_at}
 use Rattle.table.specs.WellFormed.{Subtree, root, Children, Assured, call, WellFormed}
-use Rattle.table.proofs.Views.{assured, tag_for, node_tag, known_node, at_arithmetic, at_choose, at_let, at_call, at_both, first_of, later_of}
+use Rattle.table.proofs.Views.{assured, tag_for, node_tag, known_node, at_arithmetic, at_choose, at_let, at_call, at_both, first_of, later_of_lem}
 use Rattle.schedule.specs.Graph.{Graph}
 use Rattle.schedule.specs.Algebra.{graphs}
 use Rattle.schedule.specs.FrameMachine.{Place, evaluate, close, keep}
@@ -203,7 +203,7 @@ module _ (w : List ℕ) (table : WellFormed w) where
             (cond q (keep (argument c vs) (language.at c (cond (ltb 1 (length vs)) (language.third w c) (language.second w c)) c.locals))
             (close (evaluate (language.entered (language.called w c) vs))))
         on true e =
-            (t, there c t.stands (later_of w (body_at w c.function) (length vs) ch.1 (ltb-true _ _ e) (table.contents.entries _ ch.0).arity l).tree)
+            (t, there c t.stands (later_of_lem w (body_at w c.function) (length vs) ch.1 (ltb-true _ _ e) (table.contents.entries _ ch.0).arity l).tree)
         on false e = enter (language.called w c) ch.0
 
   arrive_known : (f : Frame) (v : ℕ) → FrameOk w f → Arrives w (frame_place f) (arrive w f v)
