@@ -10,6 +10,7 @@ use mathlib.Core.List.{List, [], ◌++◌, append_assoc, append-nil}
 use native.Mathlib.Omega.{arith}
 use lib.ListN.{length, take, drop, length-append, length-drop, drop_of_length-le}
 use lib.Seq.{take_at, take_all, take-length, drop-append-add, drop-drop, length-take-le}
+use borrow.Rule.Slice.PartMut.{put_mid}
 use Rattle.lines.specs.Buffer.{Wrote}
 
 module _ {d : List ℕ} {at : ℕ} {text d₁ : List ℕ} {r : ℕ} (h : Wrote d at text d₁ r) where
@@ -44,19 +45,15 @@ module _ {d : List ℕ} {at : ℕ} {text d₁ : List ℕ} {r : ℕ} (h : Wrote d
         ∙ ap (λ (x : List ℕ). take at d ++ x) (sym (append_assoc text more (drop e d)));
   }
 
--- a copy of a text to the front of what lies from `at` on
-pub copied : (d : List ℕ) (at : ℕ) (text part : List ℕ) → at + length text ≤ length d
-    → part ≡ take (length text) text ++ drop (length text) (take (length d - at) (drop at d))
-    → Wrote d at text (take at d ++ (part ++ drop (length d - at) (drop at d))) (at + length text)
+-- a text that is written over as many bytes from `at` on
+pub copied : (d : List ℕ) (at : ℕ) (text part : List ℕ) → at + length text ≤ length d → part ≡ text
+    → Wrote d at text (put_mid at (at + length text - at) d part) (at + length text)
 copied d at text part l h =
-    let whole : take (length d - at) (drop at d) ≡ drop at d = take_all (length d - at) (drop at d) (simp length-drop (omega arith)) in
-    let none : drop (length d - at) (drop at d) ≡ [] = drop_of_length-le (drop at d) {i = length d - at} (simp length-drop (omega arith)) in
+    let k : at + (at + length text - at) ≡ at + length text = omega arith in
     record {
       ends = refl;
       fits = l;
-      content =
-          ap (λ (x : List ℕ). take at d ++ (part ++ x)) none
-          ∙ ap (λ (x : List ℕ). take at d ++ x) (append-nil part ∙ h ∙ rw (take-length text, whole, drop-drop (length text) at d));
+      content = rw (h, drop-drop (at + length text - at) at d, k);
     }
 
 -- a text, and from its end on one that is told in other words

@@ -14,7 +14,7 @@ use Rattle.table.specs.Read.{starts_of}
 use Rattle.table.specs.WellFormed.{WellFormed, Subtree}
 use Rattle.table.proofs.Bodies.{node_inside}
 use Rattle.table.proofs.Trees.{moves}
-use Rattle.table.proofs.Views.{at_local, at_arithmetic, at_choose, at_let, at_call, at_both, first_of, later_of, tag_for, node_tag, known_node}
+use Rattle.table.proofs.Views.{at_local, at_arithmetic, at_choose, at_let, at_call, at_both, first_of, later_of_lem, tag_for, node_tag, known_node}
 use Rattle.table.proofs.Filling.{starts_of_lem, starts_sixty_four}
 use Rattle.moves.specs.Ready.{Stands}
 
@@ -73,7 +73,7 @@ module _ (w : List ℕ) (table : WellFormed w) where
     argument_first t h = there s.few (first_of w (body_at w f) (at_call w (body_at w f) s.tree t).1 h).tree
 
     pub argument_later : tag_at w (start_of w f) p ≡ 5 → (i : ℕ) → 1 ≤ i → i < arity_at w (a_at w (start_of w f) p) → Stands w f (cond (ltb 1 i) (c_at w (start_of w f) p) (b_at w (start_of w f) p)) k
-    argument_later t i l h = there s.few (later_of w (body_at w f) i (at_call w (body_at w f) s.tree t).1 h (table.contents.entries _ (called_in t)).arity l).tree
+    argument_later t i l h = there s.few (later_of_lem w (body_at w f) i (at_call w (body_at w f) s.tree t).1 h (table.contents.entries _ (called_in t)).arity l).tree
 
     -- a node that is a call, by what it calls
     pub called_is : (g b c : ℕ) → node_at w (start_of w f) p ≡ Call g b c → (tag_at w (start_of w f) p ≡ 5) × (a_at w (start_of w f) p ≡ g)

@@ -1,0 +1,5 @@
+-- `moves::rise` meets its contract.
+use Rattle.moves.proofs.rise.Goals as goal
+
+pub returns : goal.returns
+returns c = rw c.higher-deepest.ensures
