@@ -1,0 +1,20 @@
+-- `strides::evaluate_let` meets its contract, by the laws of Striding.
+use Rattle.strides.proofs.Striding.{neither, jumps_none, tagged, frame_fits, jumps_strides, opened_let}
+use mathlib.Core.Path.{refl}
+use Rattle.strides.proofs.evaluate_let.Goals as goal
+
+pub bind-step-requires : goal.bind-step-requires
+bind-step-requires c =
+    tagged c.args.words.now c.args.ws.now c.args.locals.now c.args.plan c.args.g c.args.seat c.args.start c.args.at 4 c.requires
+
+pub open-requires : goal.open-requires
+open-requires c =
+    frame_fits c.args.words.now c.args.ws.now c.args.locals.now c.args.plan c.args.g c.args.seat c.args.start c.args.at 4 c.requires _ _ refl (jumps_none c.args.words.now c.args.locals.now c.args.g c.args.seat _ c.bind-step.result c.bind-step.ensures (λ next e. neither (rw e at c.in_default.in_default-own.keys2)))
+
+pub returns-in_default : goal.returns-in_default
+returns-in_default c =
+    opened_let c.args.words.now c.args.ws.now c.args.locals.now c.args.plan c.args.g c.args.seat c.args.start c.args.at c.requires _ _ (jumps_none c.args.words.now c.args.locals.now c.args.g c.args.seat _ c.bind-step.result c.bind-step.ensures (λ next e. neither (rw e at c.in_default.in_default-own.keys2))) c.open.auto.ws _ c.open.ensures
+
+pub returns : goal.returns
+returns c =
+    jumps_strides c.args.words.now c.args.ws.now c.args.locals.now c.args.plan c.args.g c.args.seat c.args.start c.args.at 4 c.requires _ _ _ c.in-Go.is c.bind-step.ensures

@@ -1,0 +1,43 @@
+-- `strides::half` meets its contract, by the laws of Forms.
+use native.Mathlib.Omega.{arith}
+use Rattle.strides.proofs.Forms.{within, one_frame, half_paired, none_paired}
+use Rattle.strides.proofs.half.Goals as goal
+
+pub overflow_add-h : goal.overflow_add-h
+overflow_add-h c = omega (arith, one_frame _ c.args.k c.frames_of-h.ensures)
+
+pub fits-requires : goal.fits-requires
+fits-requires c =
+        (c.requires.0.site.small, omega (arith, c.requires.1.few), omega arith, omega (arith, one_frame _ c.args.k c.frames_of-h.ensures))
+
+pub overflow_mul-b : goal.overflow_mul-b
+overflow_mul-b c = omega (arith, (c.fits2.ensures c.if-fits.true).1.within)
+
+pub push-requires : goal.push-requires
+push-requires c =
+    let p = c.requires.0.site in
+    (omega (arith, (c.fits2.ensures c.if-fits.true).1.within), p.stands.few, p.sixteen)
+
+pub turn-requires : goal.turn-requires
+turn-requires c = omega (arith, (c.fits2.ensures c.if-fits.true).1.within)
+
+pub overflow_add-at : goal.overflow_add-at
+overflow_add-at c = omega (arith, within c.requires.0.site)
+
+pub offset_bounds-words-at : goal.offset_bounds-words-at
+offset_bounds-words-at c = omega (arith, within c.requires.0.site)
+
+pub bounds-words-at : goal.bounds-words-at
+bounds-words-at c = omega (arith, within c.requires.0.site)
+
+pub later-requires : goal.later-requires
+later-requires c =     (c.requires.0.site.small, omega (arith, c.requires.1.few))
+
+pub returns-then-fits : goal.returns-then-fits
+returns-then-fits c =
+    let p = c.requires in
+    half_paired p.0 _ _ _ _ _ _ _ _ p.1 c.frames_of-h.ensures (c.fits2.ensures c.if-fits.true).1 c.wide.ensures
+    (rw c.none.ensures at c.push.ensures) (rw c.none-then-fits.ensures at c.turn.ensures) c.later.ensures
+
+pub returns-else-fits : goal.returns-else-fits
+returns-else-fits c = none_paired _ _ _ _ _ _ c.none-else-fits.ensures

@@ -1,0 +1,27 @@
+-- `strides::ret` meets its contract, by the laws of Pausing.
+use mathlib.Core.Path.{refl, sym, ◌∙◌}
+use native.Mathlib.Omega.{arith}
+use Rattle.strides.specs.Strides.{Awaits, made, pauses}
+use Rattle.strides.proofs.Striding.{done_strides}
+use Rattle.strides.proofs.ret.Goals as goal
+
+pub ret_paid-requires : goal.ret_paid-requires
+ret_paid-requires c =
+    (record { calm = c.requires.0; is = c.requires.1; depth = omega arith; of_kind = sym c.kind_at-kind.ensures }, c.if-kind-lt-PROMOTED_LEFT.true, c.requires.3, c.requires.2)
+
+pub returns-then-depth-eq0 : goal.returns-then-depth-eq0
+returns-then-depth-eq0 c =
+    made (done_strides c.args.words.now c.args.ws.now c.args.locals.now c.args.plan c.args.g c.requires.0 _ c.requires.1 c.if-depth-eq0.true)
+
+pub returns-then-kind-lt-PROMOTED_LEFT : goal.returns-then-kind-lt-PROMOTED_LEFT
+returns-then-kind-lt-PROMOTED_LEFT c = made c.ret_paid.ensures
+
+pub returns-then-kind-eq-PROMOTED_LEFT : goal.returns-then-kind-eq-PROMOTED_LEFT
+unfolding Awaits
+returns-then-kind-eq-PROMOTED_LEFT c =
+    pauses _ refl refl refl (record { calm = c.requires.0; is = c.requires.1; depth = omega arith; of_kind = sym c.kind_at-kind.ensures ∙ c.if-kind-eq-PROMOTED_LEFT.true })
+
+pub returns-else-kind-eq-PROMOTED_LEFT : goal.returns-else-kind-eq-PROMOTED_LEFT
+unfolding Awaits
+returns-else-kind-eq-PROMOTED_LEFT c =
+    pauses _ refl refl refl (record { calm = c.requires.0; is = c.requires.1; depth = omega arith; of_kind = sym c.kind_at-kind.ensures }, omega (arith, c.if-kind-eq-PROMOTED_LEFT.false, c.if-kind-lt-PROMOTED_LEFT.false))
