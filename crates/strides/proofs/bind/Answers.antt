@@ -24,7 +24,7 @@ overflow_add-at-then-fits c = omega (arith, within c.requires.site)
 pub simple-requires : goal.simple-requires
 simple-requires c =
     let p = c.requires in
-    first_simple p.site (let_first p) _ c.cost-k.ensures (c.fits2.ensures c.if-fits.true).0
+    first_simple p.site (let_first p) _ c.cost-k.ensures (c.fits.ensures c.if-fits.true).0
 
 pub append-requires : goal.append-requires
 append-requires c =
@@ -53,7 +53,7 @@ pub returns-in-Is : goal.returns-in-Is
 unfolding Jumps
 returns-in-Is c =
     let p = c.requires in
-    let fit = c.fits2.ensures c.if-fits.true in
+    let fit = c.fits.ensures c.if-fits.true in
     let led = first_led p.site (let_first p) _ c.cost-k.ensures fit.0 _ c.simple.ensures _ c.in-Is.is in
     jump_let p _ _ _ _ _ _ led c.frames_of-h.ensures fit.1 c.wide.ensures c.append.ensures c.later.ensures
 

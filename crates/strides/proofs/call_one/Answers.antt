@@ -26,7 +26,7 @@ overflow_add-at-then-fits c = omega (arith, here_inside _ _ _ _ _ _ c.requires.0
 
 pub simple-requires : goal.simple-requires
 simple-requires c =
-        first_simple c.requires.0 c.requires.1 (omega arith) c.cost-k.ensures (c.fits2.ensures c.if-fits.true).0
+        first_simple c.requires.0 c.requires.1 (omega arith) c.cost-k.ensures (c.fits.ensures c.if-fits.true).0
 
 pub overflow_add-k : goal.overflow_add-k
 overflow_add-k c =     omega (arith, cost_few c.args.words.now (c.args.at + 4))
@@ -37,7 +37,7 @@ later-requires c =     (c.requires.0.site.small, omega (arith, cost_few c.args.w
 pub returns-in-Is : goal.returns-in-Is
 unfolding Jumps
 returns-in-Is c =
-            jump_one c.requires.0 c.requires.1 c.cost-k.ensures c.simple.ensures c.in-Is.is c.requires.2 c.frames_of-h.ensures (c.fits2.ensures c.if-fits.true) c.append.ensures c.later.ensures
+            jump_one c.requires.0 c.requires.1 c.cost-k.ensures c.simple.ensures c.in-Is.is c.requires.2 c.frames_of-h.ensures (c.fits.ensures c.if-fits.true) c.append.ensures c.later.ensures
 
 pub returns-in-Fails : goal.returns-in-Fails
 unfolding Jumps

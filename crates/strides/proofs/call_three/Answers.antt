@@ -81,17 +81,17 @@ overflow_add-at-then-fits c = omega (arith, here_inside _ _ _ _ _ _ c.requires.0
 
 pub simple-requires : goal.simple-requires
 simple-requires c =
-            let some = both_some _ c.both.result c.cost-m.result c.both-2.ensures (c.fits2.ensures c.if-fits.true).0 in
+            let some = both_some _ c.both.result c.cost-m.result c.both-2.ensures (c.fits.ensures c.if-fits.true).0 in
     first_simple c.requires.0 c.requires.1 (omega arith) c.cost-k.ensures (both_some _ c.cost-k.result c.cost-l.result c.both.ensures some.0).0
 
 pub simple-requires-in-Is : goal.simple-requires-in-Is
 simple-requires-in-Is c =
-            let some = both_some _ c.both.result c.cost-m.result c.both-2.ensures (c.fits2.ensures c.if-fits.true).0 in
+            let some = both_some _ c.both.result c.cost-m.result c.both-2.ensures (c.fits.ensures c.if-fits.true).0 in
     second_simple c.requires.0 c.requires.1 (omega arith) c.wide.ensures c.cost-l.ensures (both_some _ c.cost-k.result c.cost-l.result c.both.ensures some.0).1
 
 pub simple-requires-in-Is-simple : goal.simple-requires-in-Is-simple
 simple-requires-in-Is-simple c =
-                let some = both_some _ c.both.result c.cost-m.result c.both-2.ensures (c.fits2.ensures c.if-fits.true).0 in
+                let some = both_some _ c.both.result c.cost-m.result c.both-2.ensures (c.fits.ensures c.if-fits.true).0 in
     third_simple c.requires.0 c.requires.1 (omega arith) c.wide-2.ensures c.cost-m.ensures some.1
 
 pub append-requires : goal.append-requires
@@ -123,7 +123,7 @@ later-requires c =
 pub returns-in-Is-simple-2 : goal.returns-in-Is-simple-2
 unfolding Jumps
 returns-in-Is-simple-2 c =
-                        jump_three c.requires.0 c.requires.1 c.cost-k.ensures c.simple.ensures c.in-Is.is c.wide.ensures c.cost-l.ensures c.simple-in-Is.ensures c.in-Is-simple.is c.wide-2.ensures c.cost-m.ensures c.simple-in-Is-simple.ensures c.in-Is-simple-2.is c.requires.2 c.frames_of.ensures c.frames_of-2.ensures c.frames_of-3.ensures c.higher.ensures c.higher-h.ensures c.both.ensures c.both-2.ensures (c.fits2.ensures c.if-fits.true) c.append.ensures c.append-in-Is-simple-2.ensures c.append-in-Is-simple-2-2.ensures c.later.ensures
+                        jump_three c.requires.0 c.requires.1 c.cost-k.ensures c.simple.ensures c.in-Is.is c.wide.ensures c.cost-l.ensures c.simple-in-Is.ensures c.in-Is-simple.is c.wide-2.ensures c.cost-m.ensures c.simple-in-Is-simple.ensures c.in-Is-simple-2.is c.requires.2 c.frames_of.ensures c.frames_of-2.ensures c.frames_of-3.ensures c.higher.ensures c.higher-h.ensures c.both.ensures c.both-2.ensures (c.fits.ensures c.if-fits.true) c.append.ensures c.append-in-Is-simple-2.ensures c.append-in-Is-simple-2-2.ensures c.later.ensures
 
 pub returns-in-Fails-simple-2 : goal.returns-in-Fails-simple-2
 unfolding Jumps

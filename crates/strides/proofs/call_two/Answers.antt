@@ -54,11 +54,11 @@ overflow_add-at-then-fits c = omega (arith, here_inside _ _ _ _ _ _ c.requires.0
 
 pub simple-requires : goal.simple-requires
 simple-requires c =
-        first_simple c.requires.0 c.requires.1 (omega arith) c.cost-k.ensures (both_some _ c.cost-k.result c.cost-l.result c.both.ensures (c.fits2.ensures c.if-fits.true).0).0
+        first_simple c.requires.0 c.requires.1 (omega arith) c.cost-k.ensures (both_some _ c.cost-k.result c.cost-l.result c.both.ensures (c.fits.ensures c.if-fits.true).0).0
 
 pub simple-requires-in-Is : goal.simple-requires-in-Is
 simple-requires-in-Is c =
-            second_simple c.requires.0 c.requires.1 (omega arith) c.wide.ensures c.cost-l.ensures (both_some _ c.cost-k.result c.cost-l.result c.both.ensures (c.fits2.ensures c.if-fits.true).0).1
+            second_simple c.requires.0 c.requires.1 (omega arith) c.wide.ensures c.cost-l.ensures (both_some _ c.cost-k.result c.cost-l.result c.both.ensures (c.fits.ensures c.if-fits.true).0).1
 
 pub append-requires : goal.append-requires
 append-requires c = (omega arith, c.requires.0.site.sixteen)
@@ -81,7 +81,7 @@ later-requires c =
 pub returns-in-Is-simple : goal.returns-in-Is-simple
 unfolding Jumps
 returns-in-Is-simple c =
-                jump_two c.requires.0 c.requires.1 c.cost-k.ensures c.simple.ensures c.in-Is.is c.wide.ensures c.cost-l.ensures c.simple-in-Is.ensures c.in-Is-simple.is c.requires.2 c.frames_of.ensures c.frames_of-2.ensures c.higher-h.ensures c.both.ensures (c.fits2.ensures c.if-fits.true) c.append.ensures c.append-in-Is-simple.ensures c.later.ensures (omega arith)
+                jump_two c.requires.0 c.requires.1 c.cost-k.ensures c.simple.ensures c.in-Is.is c.wide.ensures c.cost-l.ensures c.simple-in-Is.ensures c.in-Is-simple.is c.requires.2 c.frames_of.ensures c.frames_of-2.ensures c.higher-h.ensures c.both.ensures (c.fits.ensures c.if-fits.true) c.append.ensures c.append-in-Is-simple.ensures c.later.ensures (omega arith)
 
 pub returns-in-Fails-simple : goal.returns-in-Fails-simple
 unfolding Jumps

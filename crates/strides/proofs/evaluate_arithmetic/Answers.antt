@@ -10,11 +10,11 @@ pair-step-requires c =
 
 pub open-requires : goal.open-requires
 open-requires c =
-    frame_fits c.args.words.now c.args.ws.now c.args.locals.now c.args.plan c.args.g c.args.seat c.args.start c.args.at 2 c.requires _ _ (paired_none c.args.words.now c.args.ws.now c.args.locals.now c.args.g c.args.seat _ c.pair-step.result c.pair-step.ensures (λ next e. neither (rw e at c.in_default.in_default-own.keys2))) refl
+    frame_fits c.args.words.now c.args.ws.now c.args.locals.now c.args.plan c.args.g c.args.seat c.args.start c.args.at 2 c.requires _ _ (paired_none c.args.words.now c.args.ws.now c.args.locals.now c.args.g c.args.seat _ c.pair-step.result c.pair-step.ensures c.in_default.not-Go) refl
 
 pub returns-in_default : goal.returns-in_default
 returns-in_default c =
-    opened_arithmetic c.args.words.now c.args.ws.now c.args.locals.now c.args.plan c.args.g c.args.seat c.args.start c.args.at c.requires _ _ (paired_none c.args.words.now c.args.ws.now c.args.locals.now c.args.g c.args.seat _ c.pair-step.result c.pair-step.ensures (λ next e. neither (rw e at c.in_default.in_default-own.keys2))) c.open.auto.ws _ c.open.ensures
+    opened_arithmetic c.args.words.now c.args.ws.now c.args.locals.now c.args.plan c.args.g c.args.seat c.args.start c.args.at c.requires _ _ (paired_none c.args.words.now c.args.ws.now c.args.locals.now c.args.g c.args.seat _ c.pair-step.result c.pair-step.ensures c.in_default.not-Go) c.open.auto.ws _ c.open.ensures
 
 pub returns : goal.returns
 returns c =

@@ -9,11 +9,11 @@ bind-step-requires c =
 
 pub open-requires : goal.open-requires
 open-requires c =
-    frame_fits c.args.words.now c.args.ws.now c.args.locals.now c.args.plan c.args.g c.args.seat c.args.start c.args.at 4 c.requires _ _ refl (jumps_none c.args.words.now c.args.locals.now c.args.g c.args.seat _ c.bind-step.result c.bind-step.ensures (λ next e. neither (rw e at c.in_default.in_default-own.keys2)))
+    frame_fits c.args.words.now c.args.ws.now c.args.locals.now c.args.plan c.args.g c.args.seat c.args.start c.args.at 4 c.requires _ _ refl (jumps_none c.args.words.now c.args.locals.now c.args.g c.args.seat _ c.bind-step.result c.bind-step.ensures c.in_default.not-Go)
 
 pub returns-in_default : goal.returns-in_default
 returns-in_default c =
-    opened_let c.args.words.now c.args.ws.now c.args.locals.now c.args.plan c.args.g c.args.seat c.args.start c.args.at c.requires _ _ (jumps_none c.args.words.now c.args.locals.now c.args.g c.args.seat _ c.bind-step.result c.bind-step.ensures (λ next e. neither (rw e at c.in_default.in_default-own.keys2))) c.open.auto.ws _ c.open.ensures
+    opened_let c.args.words.now c.args.ws.now c.args.locals.now c.args.plan c.args.g c.args.seat c.args.start c.args.at c.requires _ _ (jumps_none c.args.words.now c.args.locals.now c.args.g c.args.seat _ c.bind-step.result c.bind-step.ensures c.in_default.not-Go) c.open.auto.ws _ c.open.ensures
 
 pub returns : goal.returns
 returns c =

@@ -11,15 +11,15 @@ fits-requires c =
         (c.requires.0.site.small, omega (arith, c.requires.1.few), omega arith, omega (arith, one_frame _ c.args.k c.frames_of-h.ensures))
 
 pub overflow_mul-b : goal.overflow_mul-b
-overflow_mul-b c = omega (arith, (c.fits2.ensures c.if-fits.true).1.within)
+overflow_mul-b c = omega (arith, (c.fits.ensures c.if-fits.true).1.within)
 
 pub push-requires : goal.push-requires
 push-requires c =
     let p = c.requires.0.site in
-    (omega (arith, (c.fits2.ensures c.if-fits.true).1.within), p.stands.few, p.sixteen)
+    (omega (arith, (c.fits.ensures c.if-fits.true).1.within), p.stands.few, p.sixteen)
 
 pub turn-requires : goal.turn-requires
-turn-requires c = omega (arith, (c.fits2.ensures c.if-fits.true).1.within)
+turn-requires c = omega (arith, (c.fits.ensures c.if-fits.true).1.within)
 
 pub overflow_add-at : goal.overflow_add-at
 overflow_add-at c = omega (arith, within c.requires.0.site)
@@ -36,7 +36,7 @@ later-requires c =     (c.requires.0.site.small, omega (arith, c.requires.1.few)
 pub returns-then-fits : goal.returns-then-fits
 returns-then-fits c =
     let p = c.requires in
-    half_paired p.0 _ _ _ _ _ _ _ _ p.1 c.frames_of-h.ensures (c.fits2.ensures c.if-fits.true).1 c.wide.ensures
+    half_paired p.0 _ _ _ _ _ _ _ _ p.1 c.frames_of-h.ensures (c.fits.ensures c.if-fits.true).1 c.wide.ensures
     (rw c.none.ensures at c.push.ensures) (rw c.none-then-fits.ensures at c.turn.ensures) c.later.ensures
 
 pub returns-else-fits : goal.returns-else-fits

@@ -42,7 +42,7 @@ fits-requires c =
 
 pub simple-requires : goal.simple-requires
 simple-requires c =
-    right_simple c.args.top c.requires.0 c.requires.3 c.seat_of-seat.ensures c.wide.ensures c.cost-k.ensures (c.fits2.ensures c.if-fits.true).0
+    right_simple c.args.top c.requires.0 c.requires.3 c.seat_of-seat.ensures c.wide.ensures c.cost-k.ensures (c.fits.ensures c.if-fits.true).0
 
 pub overflow_add-at-in-Is : goal.overflow_add-at-in-Is
 overflow_add-at-in-Is c = omega (arith, frame_inside c.args.top c.requires.0 c.requires.3 c.seat_of-seat.ensures)
@@ -64,7 +64,7 @@ later-requires c =
 pub returns-in-Is-operate : goal.returns-in-Is-operate
 unfolding Rebounds
 returns-in-Is-operate c =
-    rebounded c.args.top c.requires.0 c.requires.3 c.seat_of-seat.ensures c.wide.ensures c.cost-k.ensures c.frames_of-h.ensures (c.fits2.ensures c.if-fits.true) c.simple.ensures c.in-Is.is c.operate.ensures c.in-Is-operate.is c.later.ensures
+    rebounded c.args.top c.requires.0 c.requires.3 c.seat_of-seat.ensures c.wide.ensures c.cost-k.ensures c.frames_of-h.ensures (c.fits.ensures c.if-fits.true) c.simple.ensures c.in-Is.is c.operate.ensures c.in-Is-operate.is c.later.ensures
 
 pub returns-in-Fails-operate : goal.returns-in-Fails-operate
 unfolding Rebounds

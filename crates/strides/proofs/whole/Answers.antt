@@ -46,7 +46,7 @@ unfolding Jumps
 returns-in-Is-operate c =
     let p = c.requires in
     jump_pair p.0 _ _ _ _ _ _ _ _ _ _ _ _ p.1 p.2 p.3 p.4 c.simple.ensures c.in-Is.is c.operate.ensures c.in-Is-operate.is
-    c.frames_of.ensures c.frames_of-2.ensures c.higher-h.ensures (c.fits2.ensures c.if-fits.true).1 c.later.ensures
+    c.frames_of.ensures c.frames_of-2.ensures c.higher-h.ensures (c.fits.ensures c.if-fits.true).1 c.later.ensures
 
 pub returns-in-Fails-operate : goal.returns-in-Fails-operate
 returns-in-Fails-operate c = none_jumps _ _ _ _ _ c.none.ensures
