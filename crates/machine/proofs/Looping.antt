@@ -1,5 +1,4 @@
 -- The loop's turn: strides, and then a free move or the run's end.
---     not-go, ..            of an enum's tag, as the code's match tells it
 --     paused-is, made-is    a pause changes nothing; what is no pause was made
 --     limit-awaits          what is asked at the limit
 --     pause-next            the invariants where a free move is awaited
@@ -7,7 +6,6 @@
 --     free-done, free-ends  a free move keeps them, or the run ends at it
 use Prim.Native.Nat.{ℕ, ◌<◌, ◌≤◌}
 use mathlib.Core.Path.{◌≡◌, sym, ◌∙◌}
-use mathlib.Core.Logic.{◌⊎◌, inl, inr}
 use mathlib.Core.List.{List}
 use native.Mathlib.Omega.{arith}
 use lib.ListN.{length}
@@ -25,25 +23,6 @@ use Rattle.machine.specs.declared.Moved.{Moved}
 use Rattle.machine.specs.Loop.{Stays, Onward, Resolved, as_before, at_limit, Moves, frees, stops}
 use Rattle.machine.proofs.Running.{Running, to_go, running_far}
 use Rattle.machine.proofs.Tracking.{Tracking, tracking_far, free_next}
-
--- of an enum's tag, as the code's match tells it
-pub not_go : {k : ℕ} → k ≡ 0 → (k ≡ 1) ⊎ ((k ≡ 2) ⊎ ((k ≡ 3) ⊎ (k ≡ 4))) → ⊥
-not_go h (inl e) = absurd (omega arith)
-not_go h (inr (inl e)) = absurd (omega arith)
-not_go h (inr (inr (inl e))) = absurd (omega arith)
-not_go h (inr (inr (inr e))) = absurd (omega arith)
-
-pub not_free : {k : ℕ} → k ≡ 1 → (k ≡ 0) ⊎ ((k ≡ 2) ⊎ ((k ≡ 3) ⊎ (k ≡ 4))) → ⊥
-not_free h (inl e) = absurd (omega arith)
-not_free h (inr (inl e)) = absurd (omega arith)
-not_free h (inr (inr (inl e))) = absurd (omega arith)
-not_free h (inr (inr (inr e))) = absurd (omega arith)
-
-pub not_paused : {k : ℕ} → k ≡ 2 → (k ≡ 0) ⊎ ((k ≡ 1) ⊎ ((k ≡ 3) ⊎ (k ≡ 4))) → ⊥
-not_paused h (inl e) = absurd (omega arith)
-not_paused h (inr (inl e)) = absurd (omega arith)
-not_paused h (inr (inr (inl e))) = absurd (omega arith)
-not_paused h (inr (inr (inr e))) = absurd (omega arith)
 
 -- no stride is a pause, or a free move
 pub never_paused : {w ws ls : List ℕ} {plan : Plan} {g : Compact} {ws' ls' : List ℕ} {r : Progress} → Strides w ws ls plan g ws' ls' r → (p : Pause) → r ≡ Paused p → ⊥

@@ -1,0 +1,23 @@
+-- `machine::run` meets its contract.
+use Rattle.machine.proofs.Concluding.{wrote_with}
+use Rattle.machine.proofs.Machines.{copied, few, ran_with, zeroed}
+use mathlib.Core.Path.{◌∙◌}
+use native.Mathlib.Omega.{arith}
+use Rattle.machine.proofs.run.Goals as goal
+
+pub copy-requires : goal.copy-requires
+copy-requires c =
+    let room = few c.args.words.now c.args.arguments.now _ _ c.requires.0 in (omega (arith, c.requires.2), omega arith)
+
+pub drive-ran-requires : goal.drive-ran-requires
+drive-ran-requires c =
+    (record { table = c.requires.0.table; limits = c.requires.0.limits; sixteen = c.copy.auto.dst ∙ c.requires.2; arguments = c.requires.0.count }, c.requires.1)
+
+pub returns : goal.returns
+returns c =
+        let room = few c.args.words.now c.args.arguments.now _ _ c.requires.0 in
+    let same = copied c.args.locals.now c.args.arguments.now _ (omega (arith, c.requires.2)) c.copy.ensures in (
+      ran_with c.args.words.now _ c.args.arguments.now _ c.args.plan _ same c.drive-ran.ensures.0,
+      zeroed c.args.ws.now _ _ _ c.clear.ensures c.drive-ran.auto.ws (c.drive-ran.ensures.0.began _),
+      wrote_with c.args.words.now _ c.args.arguments.now _ c.args.plan _ _ _ same c.drive-ran.ensures.1,
+    )
