@@ -2,10 +2,10 @@
 -- Assumes nothing.
 use mathlib.Core.Path.{◌≡◌, sym, ◌∙◌}
 use Prim.Native.Nat.{ℕ, ◌<◌, ◌≤◌}
-use mathlib.Core.Bool.{Bool, true, false, not}
+use mathlib.Core.Bool.{Bool, true, false}
 use mathlib.Core.List.{List}
 use lib.ListN.{length}
-use borrow.Author.Tests.{not-true, not-false, le-leb, lt-leb}
+use borrow.Author.Tests.{le-leb, lt-leb}
 use Rattle.language.specs.declared.Answer.{Answer}
 use Rattle.machine.specs.Workspace.{left_by}
 use Rattle.capi.specs.Words.{answer_words, written}
@@ -24,11 +24,11 @@ unfolding served
 serving machine room h k = rw (le-leb machine 2 h, le-leb 8 room k)
 
 module _ (machine room : ℕ) {answer : Bool} (is : answer ≡ served machine room) where
-  pub refuses : not answer ≡ true → served machine room ≡ false
-  refuses h = sym is ∙ not-true answer h
+  pub refuses : answer ≡ false → served machine room ≡ false
+  refuses h = sym is ∙ h
 
-  pub accepts : not answer ≡ false → served machine room ≡ true
-  accepts h = sym is ∙ not-false answer h
+  pub accepts : answer ≡ true → served machine room ≡ true
+  accepts h = sym is ∙ h
 
 module _ (machine : ℕ) (w arguments : List ℕ) (fuel N τ : ℕ) (ws out : List ℕ) where
   pub turned_away : served machine (length out) ≡ false → Called machine w arguments fuel N τ ws out ws out 1

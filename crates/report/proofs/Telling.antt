@@ -50,13 +50,13 @@ parts w h =
     record { four = leb-true _ _ a.0; few = leb-true _ _ b.0; room = leb-true _ _ b.1 }
 
 module _ (w : List ℕ) (answer : Bool) (is : answer ≡ complete w) where
-  pub lacks : not answer ≡ true → complete w ≡ false
-  lacks h = sym is ∙ not-true answer h
+  pub lacks : answer ≡ false → complete w ≡ false
+  lacks h = sym is ∙ h
 
-  pub passes : not answer ≡ false → complete w ≡ true
-  passes h = sym is ∙ not-false answer h
+  pub passes : answer ≡ true → complete w ≡ true
+  passes h = sym is ∙ h
 
-  pub has : not answer ≡ false → Complete w
+  pub has : answer ≡ true → Complete w
   has h = parts w (passes h)
 
 -- a copy to the front, taken back

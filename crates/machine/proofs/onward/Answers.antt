@@ -22,13 +22,13 @@ shape_of-locals-in_default c =
 pub returns-in_default : goal.returns-in_default
 returns-in_default c =
     record {
-  words = c.loop-next.ws;
-  locals = c.loop-next.locals;
-  far = c.loop-next.invariant.0;
-  starts = c.loop-next.invariant.1;
-  last = c.stride-step.ensures;
-  stays = c.in_default.not-Go;
-}
+      words = c.loop-next.ws;
+      locals = c.loop-next.locals;
+      far = c.loop-next.invariant.0;
+      starts = c.loop-next.invariant.1;
+      last = c.stride-step.ensures;
+      stays = c.in_default.not-Go;
+    }
 
 pub loop-next-smaller : goal.loop-next-smaller
 loop-next-smaller c =

@@ -15,7 +15,7 @@ drive-ran-requires c =
 
 pub returns : goal.returns
 returns c =
-        let room = few c.args.words.now c.args.arguments.now _ _ c.requires.0 in
+    let room = few c.args.words.now c.args.arguments.now _ _ c.requires.0 in
     let same = copied c.args.locals.now c.args.arguments.now _ (omega (arith, c.requires.2)) c.copy.ensures in (
       ran_with c.args.words.now _ c.args.arguments.now _ c.args.plan _ same c.drive-ran.ensures.0,
       zeroed c.args.ws.now _ _ _ c.clear.ensures c.drive-ran.auto.ws (c.drive-ran.ensures.0.began _),

@@ -8,7 +8,7 @@ overflow_add-h c = omega (arith, one_frame _ c.args.k c.frames_of-h.ensures)
 
 pub fits-requires : goal.fits-requires
 fits-requires c =
-        (c.requires.0.site.small, omega (arith, c.requires.1.few), omega arith, omega (arith, one_frame _ c.args.k c.frames_of-h.ensures))
+    (c.requires.0.site.small, omega (arith, c.requires.1.few), omega arith, omega (arith, one_frame _ c.args.k c.frames_of-h.ensures))
 
 pub overflow_mul-b : goal.overflow_mul-b
 overflow_mul-b c = omega (arith, (c.fits.ensures c.if-fits.true).1.within)
@@ -31,7 +31,7 @@ pub bounds-words-at : goal.bounds-words-at
 bounds-words-at c = omega (arith, within c.requires.0.site)
 
 pub later-requires : goal.later-requires
-later-requires c =     (c.requires.0.site.small, omega (arith, c.requires.1.few))
+later-requires c = (c.requires.0.site.small, omega (arith, c.requires.1.few))
 
 pub returns-then-fits : goal.returns-then-fits
 returns-then-fits c =

@@ -13,7 +13,7 @@ overflow_add-k c = omega (arith, two_few c.requires.1 _ _ c.requires.3)
 
 pub fits-requires : goal.fits-requires
 fits-requires c =
-        let low = one_frame_of_two c.args.k c.args.l _ _ _ c.frames_of.ensures c.frames_of-2.ensures c.higher-h.ensures in
+    let low = one_frame_of_two c.args.k c.args.l _ _ _ c.frames_of.ensures c.frames_of-2.ensures c.higher-h.ensures in
     (c.requires.0.site.small, omega (arith, two_few c.requires.1 _ _ c.requires.3), omega arith, omega (arith, low))
 
 pub simple-requires : goal.simple-requires
@@ -38,7 +38,7 @@ overflow_add-k-in-Is-operate-2 c = omega (arith, two_few c.requires.1 _ _ c.requ
 
 pub later-requires : goal.later-requires
 later-requires c =
-        let low = one_frame_of_two c.args.k c.args.l _ _ _ c.frames_of.ensures c.frames_of-2.ensures c.higher-h.ensures in
+    let low = one_frame_of_two c.args.k c.args.l _ _ _ c.frames_of.ensures c.frames_of-2.ensures c.higher-h.ensures in
     (c.requires.0.site.small, omega (arith, two_few c.requires.1 _ _ c.requires.3))
 
 pub returns-in-Is-operate : goal.returns-in-Is-operate
