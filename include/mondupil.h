@@ -133,8 +133,9 @@ uint32_t mondupil_run(uint32_t machine,
  *
  * The answer is that of mondupil_run but for one case. Where mondupil_run has a value and its graph needs more words than `graph_len`, the
  * answer is stop 25, with function 0, node 0 and the transitions and the depth of the run; every other stop comes before it. A 25 does not
- * tell how many words are needed: lend more and call again. 2 * transitions + 3 * forks are enough, by the answer of mondupil_run. No
- * value's graph is without words, so that an empty buffer gives 25 wherever mondupil_run has a value.
+ * tell how many words are needed: lend more and call again. 2 * transitions + 3 * forks are enough, by the answer of mondupil_run, and so
+ * are 9 * forks + 2 (crates/graph_answers/specs/Enough.antt, of the answers). No value's graph is without words, so that an empty buffer
+ * gives 25 wherever mondupil_run has a value.
  *
  * Every input is allowed, and every length of `graph`, 0 too. What the caller must see to is what mondupil_run asks for, and that `graph`
  * overlaps nothing else.

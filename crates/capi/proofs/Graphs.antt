@@ -4,11 +4,11 @@ use Prim.Native.Nat.{ℕ, ◌≤◌, ◌<◌}
 use mathlib.Core.Path.{◌≡◌, refl, sym, ap, ◌∙◌}
 use mathlib.Core.Bool.{true, false}
 use mathlib.Core.List.{List, [], ◌∷◌, ◌++◌}
-use mathlib.Core.Logic.{◌⊎◌, inl, inr, ⊎_elim}
+use mathlib.Core.Logic.{◌⊎◌, inl, inr}
 use native.Mathlib.Omega.{arith}
 use lib.ListN.{length, get_or, length-append, get_or-append}
 use lib.Seq.{get_or-append_seam}
-use Rattle.schedule.specs.Machine.{Schedule, sequential, parallel, heartbeat}
+use Rattle.schedule.specs.Machine.{sequential, parallel, heartbeat}
 use Rattle.language.specs.declared.Stop.{Stop}
 use Rattle.language.specs.declared.Answer.{Answer}
 use Rattle.language.specs.declared.Answer.TheVariants.{Value, Stopped, Refused}
@@ -23,7 +23,7 @@ use Rattle.machine.specs.Workspace.{left_by}
 use Rattle.capi.specs.Words.{answer_words, written}
 use Rattle.capi.specs.Calls.{served}
 use Rattle.capi.specs.Claims.{StopIn}
-use Rattle.capi.specs.Graphs.{schedule_by, graph_words, GraphCalled, words_in, GraphCallWrote, Not25In, ThreeGraphCalls, DepthOfGraphCalls, StopsOfGraphCalls, Stop25In, StopOfGraphCall, GraphIn, GraphOfCall}
+use Rattle.capi.specs.Graphs.{schedule_by, graph_words, GraphCalled, words_in, GraphCallWrote, Not25In, ThreeGraphCalls, DepthOfGraphCalls, StopsOfGraphCalls, Stop25In, StopOfGraphCall, GraphOfCall}
 use Rattle.capi.proofs.Serving.{serving}
 use Rattle.capi.proofs.Writing.{length_written, word_written}
 use Rattle.capi.proofs.Claims.{Front, nine, valued, stopped, shown, four_words, same_words, listed_words}

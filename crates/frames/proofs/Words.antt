@@ -1,12 +1,12 @@
 -- Lists of words where some were copied or one was written.
 --     copied              one word more of a copy
---     copied-one .. -four the first words of a copy
---     two-parts           a copy in two parts, and copied-rest where the first has four words
---     getD-paste          a copy leaves each word before it
---     paste-other         and each after it
---     take-paste-below    all of those before it together
+--     copied_one .. -four the first words of a copy
+--     two_parts           a copy in two parts, and copied-rest where the first has four words
+--     get_or-paste        a copy leaves each word before it
+--     paste_other         and each after it
+--     take_paste_below    all of those before it together
 --     pasted              what was copied stands there
---     getD-write-other    a write at offset i of a frame leaves the word at another offset j
+--     get_or-write_other  a write at offset i of a frame leaves the word at another offset j
 --     same_word, part_same  words of two lists that agree
 -- Assumes nothing.
 use Prim.Native.Nat.{ℕ, ◌+◌, ◌-◌, ◌<◌, ◌≤◌}

@@ -1,12 +1,12 @@
 -- What follows from the definitions of specs/Frames, part by part, for the crate above.
---     Pushed, is-pushed          the words of a new frame, and those below it
+--     Pushed, is_pushed          the words of a new frame, and those below it
 --     Turned, is_turned          those of a turned frame
---     Collected, is-collected    those of a frame that has collected an argument
---     Marked, is-marked          those of a promoted frame, and those of the others
---     pushed-spares and so on    a write leaves every word from the 28th of a frame on, and all words of other frames
---     Agree, frames-agree        what a frame holds in two lists where its words agree, but for the places of a fork
---     Loaded, is-loaded          the locals that were brought back
---     Appended, is-appended      the locals with one more
+--     Collected, is_collected    those of a frame that has collected an argument
+--     Marked, is_marked          those of a promoted frame, and those of the others
+--     pushed_spares and so on    a write leaves every word from the 28th of a frame on, and all words of other frames
+--     Agree, frames_agree        what a frame holds in two lists where its words agree, but for the places of a fork
+--     Loaded, is_loaded          the locals that were brought back
+--     Appended, is_appended      the locals with one more
 -- `ws` are the words before and `ws'` those after; b is a frame's first word. Assumes nothing.
 use Prim.Native.Nat.{ℕ, suc, ◌+◌, ◌<◌, ◌≤◌, zero-le}
 use mathlib.Core.Path.{◌≡◌, ap, ◌∙◌}

@@ -1,10 +1,10 @@
 -- A lent buffer beside the words of a run, write by write. Each is looked at where the words fit, and where they do not nothing is to be shown.
---     holds_more, holds-set      one word more at the end; a word filled in
---     holds-all                  where the words fit, the buffer begins with them
---     holds-within               a write that is made where the words fit
---     counted-end, holds-end     the stretch ends
---     holds-head                 a fork's three words
---     left-filled, right-filled  a fork's lengths filled in
+--     holds_more, holds_set      one word more at the end; a word filled in
+--     holds_all                  where the words fit, the buffer begins with them
+--     holds_within               a write that is made where the words fit
+--     counted_end, holds_end     the stretch ends
+--     holds_head                 a fork's three words
+--     left_filled, right_filled  a fork's lengths filled in
 use Prim.Native.Nat.{ℕ, zero, suc, ◌+◌, ◌*◌, ◌-◌, ◌≤◌, ◌<◌}
 use mathlib.Core.Path.{◌≡◌, refl, ap, sym, ◌∙◌, subst}
 use mathlib.Core.Bool.{Bool, true, false, cond}

@@ -1,14 +1,13 @@
 -- Steps by the flags of a schedule, as code makes them, over any way to keep cost.
---     StepBy, step-by-view    the inversion of such a step
---     Within, within-steps    credits and transitions stay within the fuel
+--     StepBy, step_by_view    the inversion of such a step
+--     Within, within_steps    credits and transitions stay within the fuel
 --     runs_same               so that the runs by a schedule and by its flags are the same
---     risen-at-most           transitions rise by at most one a step
+--     risen_at_most           transitions rise by at most one a step
 --     steps_map               a homomorphism carries such steps over
---     lifted, lifted-end      and from what it leads to back
-use Prim.Native.Nat.{ℕ, zero, suc, ◌+◌, ◌≤◌, ◌<◌}
+--     lifted, lifted_end      and from what it leads to back
+use Prim.Native.Nat.{ℕ, zero, suc, ◌+◌, ◌≤◌}
 use mathlib.Core.Path.{◌≡◌, refl, ap, sym, ◌∙◌, subst}
 use mathlib.Core.Bool.{Bool, true, false, cond, ◌&&◌}
-use mathlib.Core.List.{List}
 use native.Mathlib.Omega.{arith}
 use lib.Dec.{leb}
 use borrow.Author.Tests.{lt-leb}
@@ -18,7 +17,7 @@ use Rattle.schedule.specs.Machine.{Stack, promotable, promote, Ending, RunCounts
 use Rattle.schedule.specs.Runs.{and_then, run}
 use Rattle.schedule.specs.Bounds.{step_by, Flags}
 use Rattle.schedule.specs.Homomorphism.{map_stack, map_state, map_outcome}
-use Rattle.schedule.proofs.Moves.{Move, goes_on, opens, closes, keeps_frame, forks, turns, joins, forks_freely, turns_freely, joins_freely, View, is_value, is_halt, is_step, MoveView, move_view}
+use Rattle.schedule.proofs.Moves.{Move, goes_on, opens, closes, keeps_frame, forks, turns, joins, forks_freely, turns_freely, joins_freely, is_value, is_halt, is_step, MoveView, move_view}
 use Rattle.schedule.proofs.Homomorphism.{run_map, promotable_map, promote_map, move_map}
 
 -- The transitions that a state has made.

@@ -1,9 +1,9 @@
 -- What code writes keeps `Tracks`, move by move.
---     tracks-start               at the start
---     tracks-steps               transitions write nothing
---     tracks-promotion, -birth   a fork that is promoted, now or at its birth
---     tracks-turn, tracks-join   the left's arrival and the join
---     tracks-value               at the value the words are the graph's
+--     tracks_start               at the start
+--     tracks_steps               transitions write nothing
+--     tracks_promotion, -birth   a fork that is promoted, now or at its birth
+--     tracks_turn, tracks_join   the left's arrival and the join
+--     tracks_value               at the value the words are the graph's
 use Prim.Native.Nat.{ℕ, zero, suc, ◌+◌, ◌*◌, ◌-◌, ◌≤◌, ◌<◌}
 use mathlib.Core.Path.{◌≡◌, refl, ap, sym, ◌∙◌, subst}
 use mathlib.Core.Bool.{Bool, true, false, cond, true≢false}

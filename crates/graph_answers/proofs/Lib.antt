@@ -4,4 +4,5 @@ pub mod AsWithout
 pub mod Buffer
 pub mod Claim
 pub mod Reported
+pub mod Enough
 pub mod Examples

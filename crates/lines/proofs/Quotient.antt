@@ -1,5 +1,5 @@
 -- Laws of the breadth's quotient.
---     equal-quotients    equal dividends have equal quotients
+--     equal_quotients    equal dividends have equal quotients
 --     below_one          what a breadth below 1 says
 use Prim.Native.Nat.{ℕ, ◌*◌, ◌/◌, ◌<◌}
 use mathlib.Core.Path.{◌≡◌, ap}

@@ -1,9 +1,9 @@
 -- From a run beside a lent buffer to what a machine answers and leaves there.
---     lends-run, lends-refusal    what a machine writes, of an accepted input and of a refused one
---     fitted-told                 with 25 looked at, the answer is the definition's
---     cleared-left                and so is the buffer, once its rest is cleared
---     graph-told                  what a machine promises of them
---     value-fits                  a value's words are within the buffer
+--     lends_run, lends_refusal    what a machine writes, of an accepted input and of a refused one
+--     fitted_told                 with 25 looked at, the answer is the definition's
+--     cleared_left                and so is the buffer, once its rest is cleared
+--     graph_told                  what a machine promises of them
+--     value_fits                  a value's words are within the buffer
 use Prim.Native.Nat.{ℕ, ◌-◌, ◌<◌, ◌≤◌}
 use mathlib.Core.Path.{◌≡◌, refl, sym, ap, ◌∙◌}
 use mathlib.Core.Bool.{Bool, true, false, cond}
@@ -13,10 +13,10 @@ use native.Mathlib.Omega.{arith}
 use native.Mathlib.Decide.{dec_lt}
 use lib.Dec.{leb}
 use borrow.Author.Tests.{leb-true}
-use lib.ListN.{length, take, replicate}
+use lib.ListN.{length, replicate}
 use Rattle.schedule.specs.Graph.{Graph}
 use Rattle.schedule.specs.Algebra.{graphs}
-use Rattle.schedule.specs.Machine.{Schedule, sequential, parallel, heartbeat, Ending, value, stop, RunCounts, State, ended}
+use Rattle.schedule.specs.Machine.{Schedule, Ending, value, stop, RunCounts, State, ended}
 use Rattle.schedule.specs.Runs.{outcome}
 use Rattle.schedule.proofs.Finish.{finishes}
 use Rattle.table.specs.declared.Refusal.{Refusal}

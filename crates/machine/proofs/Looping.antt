@@ -1,9 +1,9 @@
 -- The loop's turn: strides, and then a free move or the run's end.
---     paused-is, made-is    a pause changes nothing; what is no pause was made
---     limit-awaits          what is asked at the limit
---     pause-next            the invariants where a free move is awaited
---     end-next              and where the run ends
---     free-done, free-ends  a free move keeps them, or the run ends at it
+--     paused_is, made_is    a pause changes nothing; what is no pause was made
+--     limit_awaits          what is asked at the limit
+--     pause_next            the invariants where a free move is awaited
+--     end_next              and where the run ends
+--     free_done, free_ends  a free move keeps them, or the run ends at it
 use Prim.Native.Nat.{ℕ, ◌<◌, ◌≤◌}
 use mathlib.Core.Path.{◌≡◌, sym, ◌∙◌}
 use mathlib.Core.List.{List}

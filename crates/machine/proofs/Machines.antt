@@ -1,11 +1,11 @@
 -- From a run to the three machines: the arguments as locals, the check before the run, and the three answers together.
 --     copied            the copied arguments are the first locals
 --     few               there is room for them
---     ran-with          so that the run is that of the arguments
+--     ran_with          so that the run is that of the arguments
 --     zeroed            words that are cleared after a run are what its answer leaves
---     tells-run         an accepted input's answer is that of its run
---     tells-refusal     a refused one's is the refusal
---     left-length, all_three     one workspace for all three
+--     tells_run         an accepted input's answer is that of its run
+--     tells_refusal     a refused one's is the refusal
+--     left_length, all_three     one workspace for all three
 use Prim.Native.Nat.{ℕ, ◌+◌, ◌≤◌}
 use mathlib.Core.Path.{◌≡◌, refl, sym, ap, ◌∙◌}
 use mathlib.Core.Bool.{Bool}

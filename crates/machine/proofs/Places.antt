@@ -1,10 +1,10 @@
 -- The places that forks keep in their frames, beside the state that the words hold.
---     placeAt, rightAt     the places, by the frame's number
+--     place_at, right_at   the places, by the frame's number
 --     Alike                words that differ at most in places
---     ready-alike          they hold the same state
---     starts-alike         so that a stride starts from both, and a pause awaits the same move in both
---     marked-alike, ..     a mark leaves words that are alike
---     oldest-is            the oldest plain fork is the one that a promotion promotes
+--     ready_alike          they hold the same state
+--     starts_alike         so that a stride starts from both, and a pause awaits the same move in both
+--     marked_alike, ..     a mark leaves words that are alike
+--     oldest_is            the oldest plain fork is the one that a promotion promotes
 use Prim.Native.Nat.{ℕ, zero, suc, ◌+◌, ◌*◌, ◌<◌, ◌≤◌}
 use mathlib.Core.Path.{◌≡◌, refl, sym, ◌∙◌}
 use mathlib.Core.Bool.{true, false}

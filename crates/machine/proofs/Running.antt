@@ -1,14 +1,14 @@
 -- The loop of a run: what it keeps true from its start to its end.
---     running-first      at the start
---     running-expands    its registers can be expanded
---     running-counts     the counts are small enough for the work's sum
---     starts-less        a stride makes the measure smaller
---     starts-next        and leaves what the next one starts from
---     running-less       so in a run, and so a free move
---     running-next       and the invariant is kept
---     running-far        strides, one after the other
---     no-further         a stride that stays goes on in no way
---     running-ends       at the end the answer is the definition's
+--     running_first      at the start
+--     running_expands    its registers can be expanded
+--     running_counts     the counts are small enough for the work's sum
+--     starts_less        a stride makes the measure smaller
+--     starts_next        and leaves what the next one starts from
+--     running_less       so in a run, and so a free move
+--     running_next       and the invariant is kept
+--     running_far        strides, one after the other
+--     no_further         a stride that stays goes on in no way
+--     running_ends       at the end the answer is the definition's
 use Prim.Native.Nat.{ℕ, ◌+◌, ◌-◌, ◌*◌, ◌/◌, ◌<◌, ◌≤◌, ◌^◌, zero-le}
 use mathlib.Core.Path.{◌≡◌, refl, sym, ap, ◌∙◌, subst}
 use mathlib.Core.Logic.{◌⊎◌, inl, inr}

@@ -1,12 +1,12 @@
 -- A run beside the buffer that is lent for its graph: what the loop keeps true of the words written, from its start to its end.
 --     Over                    a state over graphs stands over the words
 --     Tracking                the loop's invariant: there is such a state, whose run is the whole run over graphs, and the buffer tracks it
---     tracking-first          at the start
---     tracking-go             after transitions
---     tracking-far            after strides, one after the other
---     free-markable           what the words of a free move ask for
---     free-next               the invariants after it
---     small-end, wrote        at the end
+--     tracking_first          at the start
+--     tracking_go             after transitions
+--     tracking_far            after strides, one after the other
+--     free_markable           what the words of a free move ask for
+--     free_next               the invariants after it
+--     small_end, wrote        at the end
 use Prim.Native.Nat.{ℕ, ◌+◌, ◌-◌, ◌*◌, ◌/◌, ◌<◌, ◌≤◌}
 use mathlib.Core.Path.{◌≡◌, refl, sym, ap, ◌∙◌, subst}
 use mathlib.Core.Logic.{⊎_elim}

@@ -1,7 +1,7 @@
 -- A move with the promotion that may be due is the definition's step.
---     promote-ready       where one is due there is a fork to promote
---     advanced-promote    the promotion is the step
---     advanced-move       else the move is
+--     promote_ready       where one is due there is a fork to promote
+--     advanced_promote    the promotion is the step
+--     advanced_move       else the move is
 use Prim.Native.Nat.{ℕ, ◌*◌, ◌<◌, ◌≤◌, ◌^◌}
 use mathlib.Core.Path.{◌≡◌, sym, ap, ◌∙◌}
 use mathlib.Core.Bool.{Bool, true, false, true≢false, ◌&&◌}

@@ -1,8 +1,8 @@
 -- Where the oldest plain fork that awaits its left is, after one frame more, or after the newest was changed or closed.
---     oldest-other, oldest-with        one frame more: no such fork, or one
---     oldest-under, oldest-without     one frame less: no such fork, or any
---     without-none                     where there was none there is none
---     found-more                       one frame more of a search
+--     oldest_other, oldest_with_lem    one frame more: no such fork, or one
+--     oldest_under, oldest_without_lem  one frame less: no such fork, or any
+--     without_none                     where there was none there is none
+--     found_more                       one frame more of a search
 use Prim.Native.Nat.{ℕ, ◌+◌, ◌*◌, ◌<◌, ◌≤◌}
 use mathlib.Core.Path.{◌≡◌, refl, sym, ◌∙◌}
 use mathlib.Core.List.{List}

@@ -1,9 +1,9 @@
 -- A promotion in the words is the definition's promotion of the slots that they hold.
---     due-is          whether a fork can be promoted is one comparison
+--     due_is          whether a fork can be promoted is one comparison
 --     promoted        the slots and what the table assures of them, after a promotion
---     oldest-next     the oldest plain fork after it
+--     oldest_next     the oldest plain fork after it
 --     promotes        what `promote` leaves
---     promote-told    and what that tells
+--     promote_told    and what that tells
 use Prim.Native.Nat.{ℕ, zero, suc, ◌+◌, ◌*◌, ◌<◌, ◌≤◌}
 use mathlib.Core.Path.{◌≡◌, refl, sym, ap, ◌∙◌}
 use mathlib.Core.List.{List, ◌∷◌}

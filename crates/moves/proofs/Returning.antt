@@ -1,5 +1,5 @@
 -- What a value that returns to a frame tells: the flat machine's move of the state that the words held is the state that they hold.
-use Prim.Native.Nat.{ℕ, zero, suc, ◌+◌, ◌-◌, ◌*◌, ◌/◌, ◌<◌, ◌≤◌, ◌^◌, max}
+use Prim.Native.Nat.{ℕ, zero, suc, ◌+◌, ◌*◌, ◌/◌, ◌<◌, ◌≤◌, ◌^◌, max}
 use mathlib.Core.Path.{◌≡◌, refl, sym, ap, ◌∙◌}
 use mathlib.Core.Bool.{Bool, true, false, cond}
 use mathlib.Core.List.{List, [], ◌∷◌, ◌++◌}
@@ -11,7 +11,7 @@ use borrow.Author.Tests.{lt-ltb, le-ltb}
 use Rattle.schedule.specs.FrameMachine.{evaluate, return, Arrival, close, keep, fail}
 use Rattle.schedule.specs.FrameMachine.{Control as FlatControl}
 use Rattle.schedule.specs.Algebra.{CostAlgebra, spans}
-use Rattle.schedule.specs.Machine.{Slot, ordinary, plain_right, promoted_right, value, stop, state, Result, ended, ongoing, after_transition, with_fuel, arrived, move}
+use Rattle.schedule.specs.Machine.{Slot, ordinary, plain_right, promoted_right, stop, state, Result, ended, ongoing, after_transition, with_fuel, arrived, move}
 use Rattle.schedule.specs.Bounds.{total, kept_spans}
 use Rattle.table.specs.Words.{functions, arity_at, start_of, tag_at, a_at, b_at}
 use Rattle.table.specs.Nodes.{node_at}

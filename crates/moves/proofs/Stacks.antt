@@ -1,8 +1,8 @@
 -- The slots that the words hold depend on the words of those frames alone.
---     length-stack, stack-more    a stack of d frames, and one frame more
---     held_more, held-top         what the table assures of them
---     slot-agrees                 a slot where the words of its frame agree
---     same-slots                  a stack where its words agree
+--     length_stack, stack_more    a stack of d frames, and one frame more
+--     held_more, held_top         what the table assures of them
+--     slot_agrees                 a slot where the words of its frame agree
+--     same_slots                  a stack where its words agree
 use Prim.Native.Nat.{ℕ, zero, suc, ◌+◌, ◌*◌, ◌<◌, ◌≤◌}
 use mathlib.Core.Path.{◌≡◌, refl, sym, ap, ◌∙◌}
 use mathlib.Core.List.{List, ◌∷◌}

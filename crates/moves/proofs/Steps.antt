@@ -1,5 +1,5 @@
 -- What each way through a move tells: the flat machine's move of the state that the words held is the state that they hold.
-use Prim.Native.Nat.{ℕ, zero, suc, ◌+◌, ◌-◌, ◌*◌, ◌/◌, ◌<◌, ◌≤◌, ◌^◌}
+use Prim.Native.Nat.{ℕ, zero, suc, ◌+◌, ◌*◌, ◌/◌, ◌<◌, ◌≤◌, ◌^◌}
 use mathlib.Core.Path.{◌≡◌, refl, sym, ap, ◌∙◌}
 use mathlib.Core.Bool.{Bool, true, false, cond, true≢false}
 use mathlib.Core.List.{List, [], ◌∷◌}
@@ -11,7 +11,7 @@ use borrow.Author.Tests.{lt-ltb, le-ltb}
 use Rattle.schedule.specs.FrameMachine.{Next, go_on, open_frame, open_fork, stuck}
 use Rattle.schedule.specs.FrameMachine.{Control as FlatControl}
 use Rattle.schedule.specs.Algebra.{CostAlgebra, spans}
-use Rattle.schedule.specs.Machine.{Slot, ordinary, plain_left, promoted_left, stop, state, ended, ongoing, tick, after_transition, with_fuel, with_frame, evaluated, move}
+use Rattle.schedule.specs.Machine.{Slot, ordinary, plain_left, promoted_left, stop, ended, ongoing, tick, after_transition, with_fuel, with_frame, evaluated, move}
 use Rattle.schedule.specs.Machine.{RunCounts}
 use Rattle.table.specs.declared.Operation.{Operation}
 use Rattle.table.specs.declared.Node.{Node}
@@ -22,7 +22,7 @@ use Rattle.table.specs.Read.{starts_of}
 use Rattle.table.proofs.Views.{tag_for}
 use Rattle.frames.specs.Frames.{frame_left, pushed}
 use Rattle.frames.proofs.Writes.{Pushed, is_pushed}
-use Rattle.language.specs.Language.{Code, Frame, left_operand, condition, binding, argument, place, at, first, next, call, language}
+use Rattle.language.specs.Language.{Code, Frame, left_operand, condition, binding, argument, place, first, next, call, language}
 use Rattle.moves.specs.declared.Control.{Control}
 use Rattle.moves.specs.declared.Control.TheVariants.{Eval, Ret}
 use Rattle.moves.specs.declared.Registers.{Registers}

@@ -1,27 +1,23 @@
 -- What the functions that tell a report have to show.
 --     Complete, has, lacks    an input's words, by the test of them
---     turned-away, told       the report on words that are no job, and on a job
+--     turned_away, told       the report on words that are no job, and on a job
 --     dividable               what the breadth's division asks of the answers
 --     cramped                 a buffer without room for a report
---     overhead-bounded        what the default N buys
---     no_words, by-words      the report on bytes that are no words, and on bytes that are
+--     overhead_bounded        what the default N buys
+--     no_words, by_words      the report on bytes that are no words, and on bytes that are
 --     too_long, ragged, all_words   which bytes are words
 -- Assumes nothing.
 use mathlib.Core.Path.{◌≡◌, refl, sym, ◌∙◌}
 use Prim.Native.Nat.{ℕ, ◌+◌, ◌-◌, ◌*◌, ◌%◌, ◌≤◌, ◌<◌}
-use mathlib.Core.Bool.{Bool, true, false, not, ◌&&◌}
+use mathlib.Core.Bool.{Bool, true, false, ◌&&◌}
 use mathlib.Core.List.{List}
 use native.Mathlib.Omega.{arith}
 use lib.ListN.{length, take, drop, length-drop}
 use lib.Seq.{paste, take_at, take_all, length-take-le}
 use lib.Dec.{leb}
-use borrow.Author.Tests.{leb-true, not-true, not-false, le-leb, lt-leb, eq-eqb, ne_eqb}
-use Rattle.table.specs.declared.Refusal.{Refusal}
+use borrow.Author.Tests.{leb-true, le-leb, lt-leb, eq-eqb, ne_eqb}
 use Rattle.schedule.proofs.Moves.{and_true}
 use Rattle.io.specs.Counts.{IsPrefixLen as ByteCount}
-use Rattle.language.specs.declared.Counts.{Counts}
-use Rattle.language.specs.declared.Answer.{Answer}
-use Rattle.language.specs.declared.Answer.TheVariants.{Value, Stopped, Refused}
 use Rattle.schedule.specs.Machine.{sequential, parallel, heartbeat}
 use Rattle.language.specs.Values.{SpanPositive, WorkAtMost}
 use Rattle.language.proofs.Values.{spans_positive, sequential_work}
@@ -31,7 +27,7 @@ use Rattle.language.proofs.House.{house_overhead}
 use Rattle.machine.specs.declared.Answers.{Answers}
 use Rattle.machine.specs.AllThree.{AllThree}
 use Rattle.report.specs.Input.{count_of, words_of, or_house, period_word, job_of, complete, whole}
-use Rattle.lines.specs.Lines.{ascii, breadth_line, machine_lines, report_lines}
+use Rattle.lines.specs.Lines.{report_lines}
 use Rattle.lines.specs.Buffer.{Wrote}
 use Rattle.report.specs.Report.{no_job, StopsListedOf, DemandThreeOf, SameDepthOf, StopsAgreeOf, FivePercentOf, lines_on, words_report, words_leave, report_of, left_after, WordsReported, Reported}
 use Rattle.lines.proofs.Buffer.{same}

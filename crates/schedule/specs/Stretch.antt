@@ -3,7 +3,7 @@
 use Rattle.std.specs.Prelude.{ℕ, zero, suc, ◌+◌, ◌≤◌, max, ◌≡◌, Bool, true, ◌∷◌, length}
 use Rattle.schedule.specs.Algebra.{CostAlgebra}
 use Rattle.schedule.specs.FrameMachine.{Control, evaluate, return, go_on, open_frame, close, keep, FrameMachine}
-use Rattle.schedule.specs.Machine.{ordinary, Stack, promotable, RunCounts, State, state, Result, ongoing}
+use Rattle.schedule.specs.Machine.{ordinary, Stack, promotable, RunCounts, state, ongoing}
 use Rattle.schedule.specs.Runs.{run}
 use Rattle.schedule.specs.Bounds.{step_by}
 

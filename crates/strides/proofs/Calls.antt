@@ -30,7 +30,7 @@ use Rattle.compact.specs.declared.Progress.{Progress}
 use Rattle.compact.specs.declared.Progress.TheVariants.{Go}
 use Rattle.compact.specs.Compact.{full, step_of, Paced, PacedBy, Transits, later_of, Roomy}
 use Rattle.operands.specs.Operands.{cost_at, frames_of, both_of, simple_at, SimpleAt, CostAt}
-use Rattle.strides.specs.Strides.{Strides, one, Tagged, Evaluating, code_of, Jump, Jumps}
+use Rattle.strides.specs.Strides.{Strides, Tagged, Evaluating, code_of, Jump, Jumps}
 use Rattle.operands.proofs.Leading.{call_one_leads, call_two_leads, call_three_leads}
 use Rattle.strides.proofs.Forms.{first_word, child_cost, child_simple, child_leads, jump}
 use Rattle.strides.proofs.Striding.{tagged, frame_fits, jumps_none, jumps_strides, one_strides}

@@ -1,15 +1,13 @@
 -- Where no stride is made: a pause, the free moves that come after one, and what comes where the fuel is spent.
-use Prim.Native.Nat.{ℕ, ◌+◌, ◌*◌, ◌/◌, ◌≤◌, ◌<◌, ◌^◌}
-use mathlib.Core.Path.{◌≡◌, refl, sym, ap, ◌∙◌}
-use mathlib.Core.Bool.{Bool, true, false, true≢false, ◌&&◌}
+use Prim.Native.Nat.{ℕ, ◌*◌, ◌/◌, ◌≤◌, ◌<◌, ◌^◌}
+use mathlib.Core.Path.{◌≡◌, refl, ap, ◌∙◌}
+use mathlib.Core.Bool.{true, false, ◌&&◌}
 use mathlib.Core.List.{List}
 use native.Mathlib.Omega.{arith}
-use lib.ListN.{length, get_or, take}
+use lib.ListN.{length, take}
 use lib.Dec.{ltb, leb}
-use Rattle.schedule.specs.FrameMachine.{open_fork}
 use Rattle.table.specs.Words.{start_of, tag_at}
 use Rattle.table.specs.Nodes.{node_at}
-use Rattle.frames.specs.Frames.{frame_kind}
 use Rattle.frames.specs.Frames.{seat_at}
 use Rattle.frames.specs.declared.Seat.{Seat}
 use Rattle.language.specs.Language.{Code, next}
@@ -19,7 +17,7 @@ use Rattle.moves.specs.declared.Plan.{Plan}
 use Rattle.moves.specs.declared.Step.{Step}
 use Rattle.moves.specs.declared.Step.TheVariants as step
 use Rattle.moves.specs.Layout.{halted}
-use Rattle.moves.specs.Ready.{Paid, Stepped, Restarts, Returns, Framed, Forked, born, OpenedBoth}
+use Rattle.moves.specs.Ready.{Paid, Stepped, Restarts, Framed, Forked, born}
 use Rattle.moves.proofs.Steps.{bounds, here, framed, stepped_spent, fork_tag}
 use Rattle.moves.proofs.Nodes.{tag_is}
 use Rattle.moves.proofs.Returning.{stepped_dry}
@@ -29,12 +27,12 @@ use Rattle.compact.specs.declared.Event.TheVariants.{Fork}
 use Rattle.compact.specs.declared.Pause.{Pause}
 use Rattle.compact.specs.declared.Pause.TheVariants as pause
 use Rattle.compact.specs.declared.Progress.{Progress}
-use Rattle.compact.specs.declared.Progress.TheVariants.{Go, Free, Paused, Value, Halt}
-use Rattle.compact.specs.Compact.{full, step_of, PacedBy, compact_of, settled_of, Settles, Forkless, freed_by, Transits}
+use Rattle.compact.specs.declared.Progress.TheVariants.{Go, Paused, Value, Halt}
+use Rattle.compact.specs.Compact.{full, step_of, PacedBy, settled_of, Settles, Forkless, freed_by, Transits}
 use Rattle.compact.proofs.Keeping.{never_due, at_fuel}
 use Rattle.strides.specs.Strides.{Starts, Calm, Returning, Occurs, Strides, Frees, Awaits, Passes, made, pauses, Ends}
 use Rattle.strides.specs.Strides as strides
-use Rattle.strides.proofs.Settling.{small, move_settles, move_frees, kept_strides, returning_returns, fork_stepped, fork_goes}
+use Rattle.strides.proofs.Settling.{small, move_settles, move_frees, kept_strides, fork_stepped, fork_goes}
 use Rattle.strides.proofs.Striding.{returned, done_strides}
 
 -- a promotion is another pause than the limit

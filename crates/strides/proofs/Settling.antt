@@ -33,7 +33,6 @@ use Rattle.compact.specs.declared.Compact.{Compact}
 use Rattle.compact.specs.declared.Event.{Event}
 use Rattle.compact.specs.declared.Event.TheVariants.{Fork, Turn, Join}
 use Rattle.compact.specs.declared.Progress.{Progress}
-use Rattle.compact.specs.declared.Progress.TheVariants as progress
 use Rattle.compact.specs.Compact.{full, step_of, PacedBy, compact_of, settled_of, Settles, freed_by, Transits, Small}
 use Rattle.compact.proofs.Keeping.{compact_full, compact_paced}
 use Rattle.operands.specs.Operands.{leaf_at}

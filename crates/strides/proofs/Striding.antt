@@ -3,7 +3,6 @@ use Prim.Native.Nat.{ℕ, ◌+◌, ◌-◌, ◌*◌, ◌/◌, ◌≤◌, ◌<◌
 use mathlib.Core.Path.{◌≡◌, refl, sym, ap, ◌∙◌}
 use mathlib.Core.Bool.{Bool}
 use mathlib.Core.List.{List, ◌∷◌}
-use mathlib.Core.Logic.{◌⊎◌, inl, inr}
 use native.Mathlib.Omega.{arith}
 use lib.ListN.{length, get_or, take, drop}
 use borrow.Author.Tests.{ltb-true}
@@ -181,13 +180,6 @@ module _ (w ws ls : List ℕ) (plan : Plan) (g : Compact) (s : Starts w ws ls pl
           };
           spared = spared_same ws;
         }) refl
-
--- A STRIDE THAT IS NONE: the variant is not Go
-pub neither : (◌≡◌ {A = ℕ} 0 1) ⊎ ((◌≡◌ {A = ℕ} 0 2) ⊎ ((◌≡◌ {A = ℕ} 0 3) ⊎ (◌≡◌ {A = ℕ} 0 4))) → ⊥
-neither (inl e) = absurd (omega arith)
-neither (inr (inl e)) = absurd (omega arith)
-neither (inr (inr (inl e))) = absurd (omega arith)
-neither (inr (inr (inr e))) = absurd (omega arith)
 
 pub jumps_none : (w ls : List ℕ) (g : Compact) (seat : Seat) (ls' : List ℕ) (r : Progress) → Jumps w ls g seat ls' r → ((next : Compact) → r ≡ Go next → ⊥) → ls' ≡ ls
 unfolding Jumps

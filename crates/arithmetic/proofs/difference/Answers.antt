@@ -2,7 +2,6 @@
 use native.Mathlib.Omega.{arith}
 use borrow.Author.Tests.{le-leb, lt-leb}
 use Rattle.arithmetic.specs.Operate.{computed}
-use Rattle.arithmetic.proofs.difference.Tie as tie
 use Rattle.arithmetic.proofs.difference.Goals as goal
 
 pub returns-then-y-x : goal.returns-then-y-x

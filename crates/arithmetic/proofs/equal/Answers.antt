@@ -1,7 +1,6 @@
 -- `arithmetic::equal` meets its contract: its test is the one of `computed`. Assumes nothing.
 use borrow.Author.Tests.{eq-eqb, ne_eqb}
 use Rattle.arithmetic.specs.Operate.{computed}
-use Rattle.arithmetic.proofs.equal.Tie as tie
 use Rattle.arithmetic.proofs.equal.Goals as goal
 
 pub returns-then-x-y : goal.returns-then-x-y

@@ -1,7 +1,6 @@
 -- `arithmetic::less` meets its contract: its test is the one of `computed`. Assumes nothing.
 use borrow.Author.Tests.{lt-ltb, le-ltb}
 use Rattle.arithmetic.specs.Operate.{computed}
-use Rattle.arithmetic.proofs.less.Tie as tie
 use Rattle.arithmetic.proofs.less.Goals as goal
 
 pub returns-then-x-y : goal.returns-then-x-y

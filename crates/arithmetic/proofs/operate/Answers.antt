@@ -1,5 +1,4 @@
 -- `arithmetic::operate` meets its contract: in each arm the operation is known, and the function called ensures the rest. Assumes nothing.
-use Rattle.arithmetic.proofs.operate.Tie as tie
 use Rattle.arithmetic.proofs.operate.Goals as goal
 
 pub returns-in-Add : goal.returns-in-Add

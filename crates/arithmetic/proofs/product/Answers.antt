@@ -4,7 +4,6 @@ use native.Mathlib.Nat.{mul-zero}
 use native.Mathlib.Omega.{arith}
 use Rattle.arithmetic.specs.Operate.{computed}
 use Rattle.arithmetic.proofs.Cases.{fits_as, above, product_within, product_beyond}
-use Rattle.arithmetic.proofs.product.Tie as tie
 use Rattle.arithmetic.proofs.product.Goals as goal
 
 pub returns-then-y-eq0 : goal.returns-then-y-eq0

@@ -1,7 +1,6 @@
 -- `arithmetic::quotient` meets its contract, by the two cases of a division. Assumes nothing.
 use Rattle.arithmetic.specs.Operate.{computed}
 use Rattle.arithmetic.proofs.Cases.{by_zero, divided}
-use Rattle.arithmetic.proofs.quotient.Tie as tie
 use Rattle.arithmetic.proofs.quotient.Goals as goal
 
 pub returns-then-y-eq0 : goal.returns-then-y-eq0

@@ -3,7 +3,6 @@ use Prim.Native.Nat.{◌+◌}
 use native.Mathlib.Omega.{arith}
 use Rattle.arithmetic.specs.Operate.{computed}
 use Rattle.arithmetic.proofs.Cases.{fits, above}
-use Rattle.arithmetic.proofs.sum.Tie as tie
 use Rattle.arithmetic.proofs.sum.Goals as goal
 
 pub returns-then-x-y : goal.returns-then-x-y

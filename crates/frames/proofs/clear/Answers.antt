@@ -4,7 +4,7 @@ use borrow.Author.Fill.{fill_none, fill_more}
 use lib.Seq.{drop-length}
 use lib.ListN.{length, length-set}
 use mathlib.Core.List.{append-nil}
-use Prim.Native.Nat.{◌<◌, ◌-◌}
+use Prim.Native.Nat.{◌<◌}
 use mathlib.Core.Path.{◌≡◌, refl, ◌∙◌}
 use native.Mathlib.Omega.{arith}
 use Rattle.frames.proofs.clear.Goals as goal

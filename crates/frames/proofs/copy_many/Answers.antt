@@ -2,7 +2,7 @@
 -- The measure is how many are left. Assumes nothing.
 use lib.Seq.{paste-zero}
 use lib.ListN.{drop, length-set}
-use Prim.Native.Nat.{◌-◌, zero-le}
+use Prim.Native.Nat.{zero-le}
 use mathlib.Core.Path.{◌≡◌, refl, ◌∙◌}
 use native.Mathlib.Omega.{arith}
 use Rattle.frames.proofs.Words.{copied}

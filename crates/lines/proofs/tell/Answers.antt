@@ -1,5 +1,4 @@
 -- `lines::tell` meets its contract: one line where the input is refused, else line after line (proofs/Cases.antt). Assumes nothing.
-use native.Mathlib.Omega.{arith}
 use Rattle.lines.proofs.Cases.{unrefused}
 use Rattle.lines.specs.Lines.{report_lines}
 use Rattle.lines.proofs.Buffer.{then}

@@ -1,4 +1,4 @@
--- `machine::all_three` meets its contract: each answer by its machine, its stop by `Listed-of`, demand 3 by `claim_of`, the depth by `same_depth_of` and that stops agree by `stops_agree_of` (proofs/Machines.antt). Assumes nothing.
+-- `machine::all_three` meets its contract: each answer by its machine, its stop by `listed_of`, demand 3 by `claim_of`, the depth by `same_depth_of` and that stops agree by `stops_agree_of` (proofs/Machines.antt). Assumes nothing.
 use Rattle.machine.proofs.Machines.{all_three}
 use Rattle.machine.proofs.all_three.Goals as goal
 

@@ -2,9 +2,7 @@
 use Rattle.machine.proofs.Looping.{never_paused, limit_awaits, pause_next, end_next, free_done, free_ends}
 use Rattle.machine.proofs.Tracking.{tracking_first, small_end, free_markable, wrote}
 use Rattle.machine.proofs.Running.{running_first, running_expands, running_counts, running_ends, no_further}
-use Rattle.compact.specs.declared.Progress.TheVariants.{Paused}
-use Rattle.compact.specs.declared.Pause.{Pause}
-use mathlib.Core.Path.{◌≡◌, refl, ◌∙◌}
+use mathlib.Core.Path.{refl, ◌∙◌}
 use native.Mathlib.Omega.{arith}
 use Rattle.machine.proofs.drive.Goals as goal
 

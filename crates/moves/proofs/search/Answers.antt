@@ -1,7 +1,6 @@
 -- `moves::search` meets its contract, by the laws of OldestFork.
 use Rattle.moves.proofs.OldestFork.{found_more}
 use mathlib.Core.Path.{refl}
-use Prim.Native.Nat.{◌-◌}
 use native.Mathlib.Omega.{arith}
 use Rattle.moves.proofs.search.Goals as goal
 

@@ -1,5 +1,5 @@
 -- `report::load` meets its contract. The loop's invariant: the first i arguments are loaded. The measure is how many are left. Assumes nothing.
-use Prim.Native.Nat.{◌-◌, zero-le}
+use Prim.Native.Nat.{zero-le}
 use mathlib.Core.Path.{◌≡◌, refl, ◌∙◌}
 use native.Mathlib.Omega.{arith}
 use lib.ListN.{drop, length-set}

@@ -1,5 +1,5 @@
 -- `report::unpack` meets its contract. The loop's invariant: the first i words are those of the bytes. The measure is how many are left. Assumes nothing.
-use Prim.Native.Nat.{◌-◌, zero-le}
+use Prim.Native.Nat.{zero-le}
 use mathlib.Core.Path.{◌≡◌, refl, ◌∙◌}
 use native.Mathlib.Omega.{arith}
 use lib.ListN.{length-set}

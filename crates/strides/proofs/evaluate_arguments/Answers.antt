@@ -1,6 +1,5 @@
 -- `strides::evaluate_arguments` meets its contract, by the laws of Calls.
 use native.Mathlib.Omega.{arith}
-use Rattle.strides.proofs.Striding.{neither}
 use Rattle.strides.proofs.Calls.{tagged_here, jump_goes, jump_stays, can_open, call_opens}
 use Rattle.strides.proofs.evaluate_arguments.Goals as goal
 

@@ -1,7 +1,6 @@
 -- `strides::evaluate_arithmetic` meets its contract, by the laws of Striding.
-use Rattle.strides.proofs.Striding.{neither, paired_none, tagged, frame_fits, paired_strides, opened_arithmetic}
+use Rattle.strides.proofs.Striding.{paired_none, tagged, frame_fits, paired_strides, opened_arithmetic}
 use mathlib.Core.Path.{refl}
-use Rattle.strides.proofs.evaluate_arithmetic.Tie as tie
 use Rattle.strides.proofs.evaluate_arithmetic.Goals as goal
 
 pub pair-step-requires : goal.pair-step-requires

@@ -1,5 +1,5 @@
 -- `strides::evaluate_let` meets its contract, by the laws of Striding.
-use Rattle.strides.proofs.Striding.{neither, jumps_none, tagged, frame_fits, jumps_strides, opened_let}
+use Rattle.strides.proofs.Striding.{jumps_none, tagged, frame_fits, jumps_strides, opened_let}
 use mathlib.Core.Path.{refl}
 use Rattle.strides.proofs.evaluate_let.Goals as goal
 

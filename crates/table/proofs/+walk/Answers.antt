@@ -1,7 +1,6 @@
 -- `table::walk` meets its contract, by the laws of Walking.
 use Rattle.table.proofs.Walking.{walks_end, walks_own, deeper, walks_leaf, walks_one, walks_first, walks_b, within_b, walks_two, walks_second, walks_c, within_c, walks_three}
 use native.Mathlib.Omega.{arith}
-use Prim.Native.Nat.{◌-◌}
 use Rattle.table.proofs.+walk.Goals as goal
 
 pub returns-then-body-p : goal.returns-then-body-p

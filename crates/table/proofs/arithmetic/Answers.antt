@@ -2,7 +2,6 @@
 use Rattle.table.proofs.Tags.{above_6}
 use Rattle.table.proofs.Tags.{no_operation}
 use Rattle.table.specs.Nodes.{arithmetic_of}
-use Rattle.table.proofs.arithmetic.Tie as tie
 use Rattle.table.proofs.arithmetic.Goals as goal
 
 pub returns-in-0 : goal.returns-in-0

@@ -1,5 +1,4 @@
 -- `table::bodies_read` meets its contract, by the laws of Bodies, InOrder.
-use Prim.Native.Nat.{◌-◌}
 use mathlib.Core.Path.{sym, ◌∙◌}
 use native.Mathlib.Omega.{arith}
 use Rattle.table.specs.Words.{nodes_before}

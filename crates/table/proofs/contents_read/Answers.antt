@@ -1,6 +1,5 @@
 -- `table::contents_read` meets its contract, by the laws of Bodies, InOrder, Acceptance.
 use mathlib.Core.Path.{ap}
-use Prim.Native.Nat.{◌-◌}
 use mathlib.Core.Path.{◌≡◌, refl, sym, ◌∙◌}
 use native.Mathlib.Omega.{arith}
 use Rattle.table.specs.Words.{functions as functionsOf, nodes_before}

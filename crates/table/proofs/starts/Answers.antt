@@ -1,5 +1,4 @@
 -- `table::starts` meets its contract, by the laws of Filling, Bodies.
-use Prim.Native.Nat.{◌-◌}
 use mathlib.Core.Path.{◌≡◌}
 use native.Mathlib.Omega.{arith}
 use Rattle.table.specs.Words.{functions as functionsOf, nodes_before}
