@@ -1,7 +1,7 @@
 -- Lists of words where some were copied or one was written.
 --     copied              one word more of a copy
 --     copied_one .. -four the first words of a copy
---     two_parts           a copy in two parts, and copied-rest where the first has four words
+--     two_parts           a copy in two parts, and `copied_rest` where the first has four words
 --     get_or-paste        a copy leaves each word before it
 --     paste_other         and each after it
 --     take_paste_below    all of those before it together
