@@ -33,24 +33,30 @@ wrote_file() {
 wrote_nothing() { : > "$work/nothing"; wrote_file "$work/nothing"; }
 
 # FOLDER: a copy of the repository, with nothing built, and beside it $work/tools/rt, a toolchain that replays what rt said
-# of the program and the library when they were built, puts the products of the repository in their places, and notes in $work/calls how
-# it was called.
-# Where RT_REFUSES is set, it refuses with that text instead.
+# of the program and the library when they were built, leaves the products of the repository where rt does, and notes in $work/calls how
+# it was called: of a build, which asks for one crate after another, the call for table, with which each begins.
+# Where RT_REFUSES is set, it refuses table with that text instead.
 toy() {
     mkdir -p "$1" "$work/tools"
-    # a repository without its history: all but .git and target/
-    find . -mindepth 1 -maxdepth 1 ! -name .git ! -name target -exec cp -R {} "$1" \;
+    # a repository without its history: all but .git, target/ and crates/*/out
+    find . -mindepth 1 -maxdepth 1 ! -name .git ! -name target ! -name crates -exec cp -R {} "$1" \;
+    for crate in crates/*; do
+        mkdir -p "$1/$crate"
+        find "$crate" -mindepth 1 -maxdepth 1 ! -name out -exec cp -R {} "$1/$crate" \;
+    done
     : > "$work/calls"
     cat > "$work/tools/rt" <<END
 #!/bin/sh
-[ "\$1" = version ] || echo "\$*" >> "$work/calls"
-case \$1 in
-version) echo "\${RT_VERSION:-a toolchain that replays}" ;;
-check | staticlib)
-    [ -z "\$RT_REFUSES" ] || { echo "\$RT_REFUSES"; exit 1; }
-    mkdir -p target/bin target/staticlib
-    cat "$work/\$1.said"
-    if [ "\$1" = check ]; then cp "$top/target/bin/mondupil" target/bin; else cp "$top/target/staticlib/libcapi.a" target/staticlib; fi ;;
+replays() { cat "$work/\$1.said"; mkdir -p out; cp "$top/target/\$2" out; }
+case "\$1 \${PWD##*/}" in
+version\ *) echo "\${RT_VERSION:-a toolchain that replays}" ;;
+'run mondupil') replays program bin/mondupil ;;
+'lib capi') replays library staticlib/libcapi.a ;;
+'lib table')
+    echo "\$*" >> "$work/calls"
+    [ -z "\$RT_REFUSES" ] || { echo "\$RT_REFUSES"; exit 1; } ;;
+lib\ *) ;;
+*) echo "\$*" >> "$work/calls" ;;
 esac
 END
     chmod +x "$work/tools/rt"

@@ -1,7 +1,7 @@
 # The first run: what README says is needed, what is said while the program is built, and the C program of README from nothing.
 toy "$work/toy"
 cd "$work/toy" || exit 1
-{ echo 'a line of the prover'; cat "$work/check.said"; } > "$work/said" && mv "$work/said" "$work/check.said"
+{ echo 'a line of the prover'; cat "$work/program.said"; } > "$work/said" && mv "$work/said" "$work/program.said"
 
 # TOTAL: the last command said before the wait how many crates, how long and once; then a line for each crate, with the count
 told_progress() {
@@ -16,14 +16,14 @@ told_progress() {
 }
 
 ends 0 replayed bin/build library
-told_progress $(($(grep -c ' proved (' "$work/staticlib.said") + 1))
+told_progress "$(grep -c '^== rt lib in crates/' "$work/library.said")"
 ends 0 replayed ./report examples/table_a.job
 wrote_file "$top/examples/table_a.report"
-told_progress "$(grep -c ' proved (' "$work/check.said")"
+told_progress "$(grep -c '^== rt [a-z]* in crates/' "$work/program.said")"
 # the prover's text is in the log that is named
 log=$(grep -o 'target/[a-z/]*\.log' "$work/before")
 seen=$((seen + 1))
-diff "$work/check.said" "${log:-/dev/null}" | grep '^<' && wrong "the prover's text is not whole in the log '$log'"
+diff "$work/program.said" "${log:-/dev/null}" | grep '^<' && wrong "the prover's text is not whole in the log '$log'"
 
 # PAGE SECTION: its lines
 section() { awk -v title="## $2" '/^## / { inside = $0 == title } inside' "$1"; }
@@ -41,7 +41,7 @@ done
 [ -n "$tools" ] || wrong ".ci/run names no tools"
 # the quick try, and what it does not assure
 seen=$((seen + 1))
-grep -q 'rt try mondupil' README.md && grep -q 'proves nothing' README.md || wrong "README does not tell the quick try, and that it proves nothing"
+grep -q 'cd crates/mondupil && rt try' README.md && grep -q 'proves nothing' README.md || wrong "README does not tell the quick try, and that it proves nothing"
 
 # the C program of README, with the commands beside it, where nothing is built
 rm -rf target
