@@ -5,8 +5,8 @@ An edit is a file of `rt`'s format (`file:`, `old:`, `new:`) with lines beside i
     # toy: WORDS             it is one of the machines or mistakes that document 01 lists, in its words
     # no twin: REASON        why there is no edit of its place and shape that means nothing
     # edit: NAME             what follows is the edit NAME, where a file has several that are tried together
-The other comment lines tell the mistake. crates/CRATE/must-fail has those that `rt ci` tries, tests/edits/CRATE those that tests/edits/run
-tries, and tests/twins/CRATE the twins of both, under the same names.
+The other comment lines tell the mistake. crates/CRATE/must-fail has those that `rt ci` tries too, tests/edits/CRATE those that only
+tests/edits/run tries, and tests/twins/CRATE the twins of both, under the same names.
 """
 import glob
 import os
@@ -70,6 +70,19 @@ def as_imported(text, old, new):
     return now[0], module + "{" + ", ".join(there + [n for n in names if n not in there]) + "}"
 
 
+# A test against a number or a constant, either way round.
+AGAINST = r"(\d+|[A-Z_]+)"
+TEST = re.compile(rf"\b(?:if|while) (?:{AGAINST} (<=?) (\w+)|(\w+)[^{{]*? ([=!<>]=|[<>]) {AGAINST}) {{")
+SAID = {"==": "eq", "!=": "ne", "<": "lt", "<=": "le", ">": "gt", ">=": "ge"}
+
+
+def tests(text):
+    """What the prover names the tests of a text by: `n < 5` and `5 > n` are n-lt5."""
+    for number, turned, of, x, sign, against in TEST.findall(text):
+        sign, by = SAID[sign or turned.replace("<", ">")], against or number
+        yield f"{x or of}-{sign}{'' if by.isdigit() else '-'}{by}"
+
+
 class Sources:
     """The files of a crate with the changes of some edits."""
 
@@ -89,10 +102,24 @@ class Sources:
             if not old or text.count(old) != 1:
                 return f"its text is not once in {file}: {old}"
             texts[file] = text.replace(old, new)
+            if file.startswith("src/"):
+                self.rename(texts, text, old, new)
         if not edit.changes:
             return "it changes nothing"
         self.texts, self.made = texts, self.made | set(edit.changes)
         return None
+
+    def rename(self, texts, text, old, new):
+        """Goals have names by the tests on their way. Where an edit makes another test of one, the names follow in the proof of its function, so that
+        the proof still fits the code, and what is refused is what it says."""
+        (first, last), were, are = lines_of(text, old), list(tests(old)), list(tests(new))
+        of = {f.name for f in functions_of(None, text) if f.line <= first and last <= f.end}
+        for path in glob.glob(os.path.join(self.folder, "proofs/**/*.antt"), recursive=True) if len(were) == len(are) else ():
+            file = os.path.relpath(path, self.folder)
+            for before, after in set(zip(were, are)) - set(zip(are, are)) if of & set(proved_in(file)) else ():
+                # a later test that has the new name already is then the second of it
+                proof = re.sub(rf"(?<=-){after}(?![\w-])", f"{after}-2", texts.get(file) or text_of(path))
+                texts[file] = re.sub(rf"(?<=-){before}(?!\w)", after, proof)
 
     def write(self, folder):
         for file, text in self.texts.items():
@@ -474,8 +501,15 @@ def side_by_side(work, tasks, job):
         list(pool.map(one, sorted(tasks, key=lambda t: -len(below(t[0], uses)))))
 
 
-def proved_as_it_stands():
-    """`rt all check`, which proves only what has changed."""
-    done = subprocess.run(["rt", "all", "check"], cwd=ROOT, stdout=subprocess.PIPE, stderr=subprocess.STDOUT, text=True)
-    if done.returncode:
-        raise SystemExit("\n".join(done.stdout.splitlines()[-20:]) + "\nthe repository itself is not proved")
+def proved_as_it_stands(some):
+    """`rt check` of each crate that they are of, which proves only what has changed."""
+
+    def said(crate):
+        words = {"cwd": os.path.join(ROOT, "crates", crate), "stdout": subprocess.PIPE, "stderr": subprocess.STDOUT, "text": True}
+        return subprocess.run(["rt", "check", "--jobs", "1"], **words)
+
+    of = {e.crate for e in some}
+    with ThreadPoolExecutor(len(os.sched_getaffinity(0))) as pool:
+        for done in pool.map(said, [c for c in crates() if c in of]):
+            if done.returncode:
+                raise SystemExit("\n".join(done.stdout.splitlines()[-20:]) + "\nthe repository itself is not proved")
