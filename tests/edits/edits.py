@@ -71,8 +71,8 @@ def as_imported(text, old, new):
 
 
 # A test against a number or a constant, either way round.
-AGAINST = r"(\d+|[A-Z_]+)"
-TEST = re.compile(rf"\b(?:if|while) (?:{AGAINST} (<=?) (\w+)|(\w+)[^{{]*? ([=!<>]=|[<>]) {AGAINST}) {{")
+AGAINST = r"(?:\w+::)*(\d+|[A-Z_]+)"
+TEST = re.compile(rf"\b(?:if|while) (?:{AGAINST} (<=?) (\w+)[^{{]*|(\w+)[^{{]*? ([=!<>]=|[<>]) {AGAINST}) {{")
 SAID = {"==": "eq", "!=": "ne", "<": "lt", "<=": "le", ">": "gt", ">=": "ge"}
 
 
@@ -102,7 +102,7 @@ class Sources:
             if not old or text.count(old) != 1:
                 return f"its text is not once in {file}: {old}"
             texts[file] = text.replace(old, new)
-            if file.startswith("src/"):
+            if file.startswith("src/") and not any(f.startswith("proofs/") for f, _, _ in edit.changes):
                 self.rename(texts, text, old, new)
         if not edit.changes:
             return "it changes nothing"
@@ -417,7 +417,7 @@ class Verdict:
         for line in log.splitlines():
             if m := ERROR.match(line):
                 file, name, said = m.groups()
-                if "was not admitted (" in said:
+                if "was not admitted" in said:
                     continue
                 if not file.startswith("proofs/"):
                     self.misread = self.misread or f"{file}: {said}"

@@ -38,8 +38,8 @@ wrote_nothing() { : > "$work/nothing"; wrote_file "$work/nothing"; }
 # Where RT_REFUSES is set, it refuses with that text instead.
 toy() {
     mkdir -p "$1" "$work/tools"
-    # a repository without its history: all but .git and target/
-    find . -mindepth 1 -maxdepth 1 ! -name .git ! -name target -exec cp -R {} "$1" \;
+    # a repository without its history: all but .git, target/ and what rt left beside the sources
+    tar cf - --exclude ./.git --exclude ./target --exclude './crates/*/out' . | tar xf - -C "$1"
     : > "$work/calls"
     cat > "$work/tools/rt" <<END
 #!/bin/sh
