@@ -5,8 +5,8 @@ An edit is a file of `rt`'s format (`file:`, `old:`, `new:`) with lines beside i
     # toy: WORDS             it is one of the machines or mistakes that document 01 lists, in its words
     # no twin: REASON        why there is no edit of its place and shape that means nothing
     # edit: NAME             what follows is the edit NAME, where a file has several that are tried together
-The other comment lines tell the mistake. crates/CRATE/must-fail has those that `rt ci` tries, tests/edits/CRATE those that tests/edits/run
-tries, and tests/twins/CRATE the twins of both, under the same names.
+The other comment lines tell the mistake. crates/CRATE/must-fail has those that `rt ci` tries too, tests/edits/CRATE those that only
+tests/edits/run tries, and tests/twins/CRATE the twins of both, under the same names.
 """
 import glob
 import os
@@ -70,6 +70,19 @@ def as_imported(text, old, new):
     return now[0], module + "{" + ", ".join(there + [n for n in names if n not in there]) + "}"
 
 
+# A test against a number or a constant, either way round.
+AGAINST = r"(?:\w+::)*(\d+|[A-Z_]+)"
+TEST = re.compile(rf"\b(?:if|while) (?:{AGAINST} (<=?) (\w+)[^{{]*|(\w+)[^{{]*? ([=!<>]=|[<>]) {AGAINST}) {{")
+SAID = {"==": "eq", "!=": "ne", "<": "lt", "<=": "le", ">": "gt", ">=": "ge"}
+
+
+def tests(text):
+    """What the prover names the tests of a text by: `n < 5` and `5 > n` are n-lt5."""
+    for number, turned, of, x, sign, against in TEST.findall(text):
+        sign, by = SAID[sign or turned.replace("<", ">")], against or number
+        yield f"{x or of}-{sign}{'' if by.isdigit() else '-'}{by}"
+
+
 class Sources:
     """The files of a crate with the changes of some edits."""
 
@@ -89,10 +102,24 @@ class Sources:
             if not old or text.count(old) != 1:
                 return f"its text is not once in {file}: {old}"
             texts[file] = text.replace(old, new)
+            if file.startswith("src/") and not any(f.startswith("proofs/") for f, _, _ in edit.changes):
+                self.rename(texts, text, old, new)
         if not edit.changes:
             return "it changes nothing"
         self.texts, self.made = texts, self.made | set(edit.changes)
         return None
+
+    def rename(self, texts, text, old, new):
+        """Goals have names by the tests on their way. Where an edit makes another test of one, the names follow in the proof of its function, so that
+        the proof still fits the code, and what is refused is what it says."""
+        (first, last), were, are = lines_of(text, old), list(tests(old)), list(tests(new))
+        of = {f.name for f in functions_of(None, text) if f.line <= first and last <= f.end}
+        for path in glob.glob(os.path.join(self.folder, "proofs/**/*.antt"), recursive=True) if len(were) == len(are) else ():
+            file = os.path.relpath(path, self.folder)
+            for before, after in set(zip(were, are)) - set(zip(are, are)) if of & set(proved_in(file)) else ():
+                # a later test that has the new name already is then the second of it
+                proof = re.sub(rf"(?<=-){after}(?![\w-])", f"{after}-2", texts.get(file) or text_of(path))
+                texts[file] = re.sub(rf"(?<=-){before}(?!\w)", after, proof)
 
     def write(self, folder):
         for file, text in self.texts.items():
@@ -137,7 +164,7 @@ def asked(all_of_them, words):
 def crates():
     """The crates, each with those that it uses, in the order of crates.txt."""
     rows = [line.split("#")[0].partition(":") for line in text_of(os.path.join(ROOT, "crates.txt")).splitlines()]
-    return {name.strip(): uses.split() for name, colon, uses in rows if colon}
+    return {name.split()[0]: uses.split() for name, colon, uses in rows if colon}
 
 
 # ---- the code: functions by their lines, and which a caller reaches
@@ -248,7 +275,7 @@ class Declaration:
     def __init__(self, name, indent, words):
         self.name, self.indent, self.lines, self.words = name, indent, set(), set(words)
         # how it is mentioned: by the parts of its name, also behind a module's
-        self.mentioned = {dot + part for part in name.split("_") if part for dot in ("", ".")}
+        self.mentioned = {dot + part for part in name.split("◌") if part for dot in ("", ".")}
 
 
 def declarations(text):
@@ -369,14 +396,14 @@ def independent(crate, some):
 def proved_in(file):
     """The functions that a file of proofs/ is the proof of: one, or those of a cycle of calls."""
     parts = file.split("/")
-    if parts[0] != "proofs" or parts[-1] != "Proof.antt":
+    if parts[0] != "proofs" or len(parts) < 3 or parts[-1] not in ("Answers.antt", "Invariants.antt"):
         return []
     return ["::".join(parts[1:-2] + [name]) for name in parts[-2].split("+") if name]
 
 
-ERROR = re.compile(r"^\S*?/((?:src|specs|proofs)/\S+?):\d+:\d+: error: (?:`([^`]*)`: )?(.*)")
-SEARCHED = re.compile(r"^fn (\w+)::(\S+): no proof: .*`search` does not close")
-UNFIT = "that can be named from here"
+ERROR = re.compile(r"^(?:\./)?((?:src|specs|proofs)/\S+?):\d+:\d+: error: (?:`([^`]*)`: )?(.*)")
+SEARCHED = re.compile(r"^fn (\w+)::(\S+): no proof: .*`search` did not prove")
+UNFIT = re.compile(r"is not in scope|has no field|has no `")
 
 
 class Verdict:
@@ -390,7 +417,7 @@ class Verdict:
         for line in log.splitlines():
             if m := ERROR.match(line):
                 file, name, said = m.groups()
-                if "was not admitted (" in said:
+                if "was not admitted" in said:
                     continue
                 if not file.startswith("proofs/"):
                     self.misread = self.misread or f"{file}: {said}"
@@ -405,7 +432,7 @@ class Verdict:
             return "NOT REFUSED" if self.proved else "NO VERDICT"
         if self.misread:
             return f"REFUSED FOR ITS TEXT, and not by a proof: {self.misread[:200]}"
-        if any(UNFIT in self.own.get(n, "") for n in list(self.own)[:1] + edit.refused_by):
+        if any(UNFIT.search(self.own.get(n, "")) for n in list(self.own)[:1] + edit.refused_by):
             return "REFUSED FOR ITS SHAPE: the proof file does not fit the code any more, which shows nothing"
         missing = [n for n in edit.refused_by if n not in self.own]
         if missing or not edit.refused_by:
@@ -416,38 +443,40 @@ class Verdict:
 # ---- trying edits over what rt has checked
 
 class Workplace:
-    """A copy of the repository, in which a crate is checked with edits over the modules that its last proof left (target/rlib)."""
+    """A copy of the repository, in which a crate is checked with edits over what its last check kept (out/)."""
 
     def __init__(self, folder):
         self.folder = folder
-        os.makedirs(os.path.join(folder, "target"))
-        shutil.copytree(os.path.join(ROOT, "crates"), os.path.join(folder, "crates"))
+        os.makedirs(folder)
         shutil.copy(os.path.join(ROOT, "crates.txt"), folder)
-        for part in ("stamp", "log"):
-            shutil.copytree(os.path.join(ROOT, "target", part), os.path.join(folder, "target", part))
-        os.symlink(os.path.join(ROOT, "target/rlib"), os.path.join(folder, "target/rlib"))
+        for crate in crates():
+            self.take(crate, "src", "specs", "proofs", "out/rlib")
+
+    def take(self, crate, *parts):
+        """The parts of the crate become what they are in the repository. What was proved has a second name in the copy: a check puts others in the
+        place of such files, and changes none."""
+        for part in parts:
+            here, copy = (os.path.join(folder, "crates", crate, part) for folder in (ROOT, self.folder))
+            shutil.rmtree(copy, ignore_errors=True)
+            if os.path.isdir(here):
+                shutil.copytree(here, copy, copy_function=os.link if part == "out/rlib" else linked)
 
     def check(self, crate, some):
-        """What `rt dev` says of the crate with these edits: its log, or why one of them cannot be applied."""
+        """What `rt check` says of the crate with these edits: its log, or why one of them cannot be applied."""
         copy, sources = os.path.join(self.folder, "crates", crate), Sources(crate)
         for edit in some:
             if wrong := sources.take(edit):
                 return f"{edit.label}: BAD EDIT: {wrong}"
-        self.take_modules(crate)
+        self.take(crate, "out/incremental")
         try:
             sources.write(copy)
-            return subprocess.run(["rt", "dev", crate], cwd=self.folder, stdout=subprocess.PIPE, stderr=subprocess.STDOUT, text=True).stdout
+            return subprocess.run(["rt", "check", "--jobs", "1"], cwd=copy, stdout=subprocess.PIPE, stderr=subprocess.STDOUT, text=True).stdout
         finally:
-            shutil.rmtree(copy)
-            shutil.copytree(sources.folder, copy)
+            self.take(crate, "src", "specs", "proofs")
 
-    def take_modules(self, crate):
-        """The modules that `rt` checked when it built the crate's library become what `rt dev` has checked before. Where they are not to be had,
-        or of another build of the prover, it checks the crate from nothing, which only takes longer."""
-        rlib, kept = os.path.join(ROOT, "target/rlib", f"{crate}.rlib"), os.path.join(self.folder, "target/inc", crate)
-        shutil.rmtree(kept, ignore_errors=True)
-        if m := re.search(r"^rattle-build (\S+)$", text_of(os.path.join(rlib, "format")), re.M):
-            shutil.copytree(os.path.join(rlib, "toolchain/checked"), os.path.join(kept, m.group(1).replace("/", "_")))
+
+def linked(one, other):
+    return os.link(one, other) if one.endswith(".oantt") else shutil.copy2(one, other)
 
 
 def below(crate, uses):
@@ -472,8 +501,15 @@ def side_by_side(work, tasks, job):
         list(pool.map(one, sorted(tasks, key=lambda t: -len(below(t[0], uses)))))
 
 
-def proved_as_it_stands():
-    """`rt check`, which proves only what has changed."""
-    done = subprocess.run(["rt", "check"], cwd=ROOT, stdout=subprocess.PIPE, stderr=subprocess.STDOUT, text=True)
-    if done.returncode:
-        raise SystemExit("\n".join(done.stdout.splitlines()[-20:]) + "\nthe repository itself is not proved")
+def proved_as_it_stands(some):
+    """`rt check` of each crate that they are of, which proves only what has changed."""
+
+    def said(crate):
+        words = {"cwd": os.path.join(ROOT, "crates", crate), "stdout": subprocess.PIPE, "stderr": subprocess.STDOUT, "text": True}
+        return subprocess.run(["rt", "check", "--jobs", "1"], **words)
+
+    of = {e.crate for e in some}
+    with ThreadPoolExecutor(len(os.sched_getaffinity(0))) as pool:
+        for done in pool.map(said, [c for c in crates() if c in of]):
+            if done.returncode:
+                raise SystemExit("\n".join(done.stdout.splitlines()[-20:]) + "\nthe repository itself is not proved")

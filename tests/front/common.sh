@@ -38,12 +38,8 @@ wrote_nothing() { : > "$work/nothing"; wrote_file "$work/nothing"; }
 # Where RT_REFUSES is set, it refuses table with that text instead.
 toy() {
     mkdir -p "$1" "$work/tools"
-    # a repository without its history: all but .git, target/ and crates/*/out
-    find . -mindepth 1 -maxdepth 1 ! -name .git ! -name target ! -name crates -exec cp -R {} "$1" \;
-    for crate in crates/*; do
-        mkdir -p "$1/$crate"
-        find "$crate" -mindepth 1 -maxdepth 1 ! -name out -exec cp -R {} "$1/$crate" \;
-    done
+    # a repository without its history: all but .git, target/ and what rt left beside the sources
+    tar cf - --exclude ./.git --exclude ./target --exclude './crates/*/out' . | tar xf - -C "$1"
     : > "$work/calls"
     cat > "$work/tools/rt" <<END
 #!/bin/sh

@@ -20,8 +20,8 @@ ends 1 tests/edits/forms
 wrote out 'tests/twins/table/body_runs_on.edit: it is of another place than its edit'
 back tests/twins/table/body_runs_on.edit
 # code that no function reaches which users call
-printf '\npub fn spare() -> u64\n    ensures { λ r. ⌜ r ≡ 4711 ⌝ }\n{\n    4711\n}\n' >> crates/table/src/lib.rt
-printf '# Nobody calls it.\n# refused by: spare\n# no twin: a trial\nfile: src/lib.rt\nold: r ≡ 4711\nnew: r ≡ 4712\n' > tests/edits/table/spare.edit
+printf '\npub fn spare() -> u64\n    ensures { result ≡ 4711 }\n{\n    4711\n}\n' >> crates/table/src/lib.rt
+printf '# Nobody calls it.\n# refused by: spare\n# no twin: a trial\nfile: src/lib.rt\nold: result ≡ 4711\nnew: result ≡ 4712\n' > tests/edits/table/spare.edit
 ends 1 tests/edits/forms
 wrote out "tests/edits/table/spare.edit: spare: no function that users call reaches spare"
 rm tests/edits/table/spare.edit
@@ -38,33 +38,37 @@ wrote out 'no edit that rt ci tries has the toy: invented span' 'docs/TOYS.md is
 back crates/machine/must-fail/span_invented.edit
 
 # the log of an edit: refused by what it names, by another, for its shape, not at all
-log=target/must-fail/table/together/.log
+log=$work/logs/table/level_65.log
 mkdir -p "$(dirname "$log")"
-said() { printf '%s\n' "$@" > "$log"; }
-said "/x/crates/table/proofs/number/Proof.antt:16:15: error: \`returns\`: it differs" 'fn table::number: not proved' 'logic=not-proved'
-ends 0 tests/edits/logs table/level_65
-said "/x/crates/table/proofs/node_of/Proof.antt:26:13: error: \`returns\`: it differs" \
-    "/x/crates/table/proofs/number/Proof.antt:64:5: error: \`number-spec\`: \`close\` was not admitted (it has holes), so this cannot be checked" 'logic=not-proved'
-ends 1 tests/edits/logs table/level_65
+# STATUS LINE..: a log of these lines ends logs with the status
+said() {
+    ended_with=$1
+    shift
+    printf '%s\n' "$@" > "$log"
+    ends "$ended_with" tests/edits/logs "$work/logs" table/level_65
+}
+said 0 './proofs/number/Answers.antt:16:15: error: `returns`: it differs' 'fn table::number: not proved' 'logic=not-proved'
+said 0 'fn table::number: no proof: expected answers in ./proofs/number/Answers.antt; `search` did not prove `returns`' 'logic=not-proved'
+said 1 './proofs/node_of/Answers.antt:26:13: error: `returns`: it differs' \
+    './proofs/number/Answers.antt:64:5: error: 1 declaration that depends on `returns`, which was not admitted, was not checked: close' \
+    'fn table::number: no proof: it calls `table::node_of`, which is not proved' 'logic=not-proved'
 wrote out 'table/level_65: REFUSED BY ANOTHER: not by number, but by node_of'
-said "/x/crates/table/proofs/number/Proof.antt:16:15: error: \`returns\`: there is no \`Need-returns\` that can be named from here" 'logic=not-proved'
-ends 1 tests/edits/logs table/level_65
+said 1 './proofs/number/Answers.antt:14:31: error: `returns-then-x`: `goal.returns-then-x`: module `Rattle.table.proofs.number.Goals` has no `returns-then-x` that can be named from here' \
+    'logic=not-proved'
 wrote out 'table/level_65: REFUSED FOR ITS SHAPE'
-said "/x/crates/table/specs/Walk.antt:6:5: error: \`numberOf\`: no such name" 'logic=not-proved'
-ends 1 tests/edits/logs table/level_65
+said 1 './specs/Walk.antt:6:5: error: `number_of`: `numberOf` is not in scope' 'logic=not-proved'
 wrote out 'table/level_65: REFUSED FOR ITS TEXT'
-said 'logic=proved functions=28'
-ends 1 tests/edits/logs table/level_65
+said 1 'logic=proved functions=28'
 wrote out 'table/level_65: NOT REFUSED'
 rm "$log"
-ends 1 tests/edits/logs table/level_65
+ends 1 tests/edits/logs "$work/logs" table/level_65
 wrote out 'table/level_65: NOT TRIED'
 
 # beside an edit that is refused, one that is not is not counted: with the prover, over what was proved last
-rm -rf target && ln -s "$top/target" target
+[ ! -d "$top/crates/table/out" ] || cp -R "$top/crates/table/out" crates/table/
 printf '# It changes nothing.\n# refused by: body_read\nfile: src/lib.rt\nold: if q == n {\nnew: if n == q {\n' > tests/edits/table/harmless.edit
 ends 1 tests/edits/run table/harmless table/no_nodes
-wrote out 'table/no_nodes: refused by entry_read' 'table/harmless: NOT REFUSED' '1 of 2 further edits refused'
+wrote out 'table/no_nodes: refused by entry_read' 'table/harmless: NOT REFUSED' '1 of 2 edits refused'
 mkdir -p tests/twins/table
 printf '# It changes the answer.\nfile: src/lib.rt\nold: if nodes(words, f) < 1 {\nnew: if nodes(words, f) < 2 {\n' > tests/twins/table/no_nodes.edit
 ends 1 tests/twins/run table/no_nodes table/body_runs_on

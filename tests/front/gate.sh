@@ -2,7 +2,9 @@
 toy "$work/toy"
 cd "$work/toy" || exit 1
 checks=$(sed -n "s/^checks='\(.*\)'$/\1/p" .ci/run)
-printf 'rt: table proved (1 s)\nrt: must-fail table/x: refused, as it must be (1 s)\nrt: ok\n7 passed, 0 failed\n' > "$work/ci.said"
+said_ok='rt: table proved\nrt: must-fail table/x.edit: refused, as it must be\nrt: ok; handles allowed: none; must-fail edits: 1 refused%s; every proof and must-fail edit was done in this run\n7 passed, 0 failed\n'
+# shellcheck disable=SC2059
+printf "$said_ok" '' > "$work/ci.said"
 cat > "$work/tools/rt" <<END
 #!/bin/sh
 echo "\$*" >> "$work/calls"
@@ -28,12 +30,13 @@ last '7 passed, 0 failed'
 for step in $(seq "$steps"); do wrote out "$step of $steps, "; done
 for check in $checks; do wrote out "$steps, $check" "the words of $check"; done
 wrote out 'crates' 'edits'
+wrote out '] rt: table proved' '] rt: must-fail table/x.edit: refused'
 called 1
-# before the last line, a row with its seconds for each part of rt ci, for each check and for all
-tail -n "$((steps + 4))" "$work/out" | sed '$d' > "$work/rows"
+# before the last line, a row with its seconds for rt ci, for each check and for all
+tail -n "$((steps + 2))" "$work/out" | sed '$d' > "$work/rows"
 seen=$((seen + 1))
-[ "$(grep -c '^gate: *[0-9][0-9]* s  ' "$work/rows")" -eq "$((steps + 3))" ] || { wrong "the last lines are not the parts with their seconds, but:"; cat "$work/rows"; }
-for row in 'rt ci: [0-9]* crates' 'rt ci: [0-9]* checks of must-fail edits' 'rt ci: the programs' $checks 'in all'; do
+[ "$(grep -c '^gate: *[0-9][0-9]* s  ' "$work/rows")" -eq "$((steps + 1))" ] || { wrong "the last lines are not the parts with their seconds, but:"; cat "$work/rows"; }
+for row in 'rt ci' $checks 'in all'; do
     seen=$((seen + 1))
     grep -q "s  $row\$" "$work/rows" || wrong "no row of the seconds is for $row"
 done
@@ -46,6 +49,13 @@ for check in $checks; do
     wrote out "the words of $check" "$check FAILED"
     check_is "$check" 0
 done
+
+# an edit that rt cannot apply or read fails the gate, though not rt
+# shellcheck disable=SC2059
+printf "$said_ok" ', 2 bad' > "$work/ci.said"
+ends 1 replayed bash .ci/run
+last '7 passed, 1 failed'
+wrote out 'rt ci FAILED: a must-fail edit is bad'
 
 # where rt fails, its own tally is the last line, and nothing more is run
 printf 'rt: FAILED: table\n6 passed, 1 failed\n' > "$work/ci.said"
