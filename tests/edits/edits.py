@@ -404,6 +404,8 @@ def proved_in(file):
 ERROR = re.compile(r"^(?:\./)?((?:src|specs|proofs)/\S+?):\d+:\d+: error: (?:`([^`]*)`: )?(.*)")
 SEARCHED = re.compile(r"^fn (\w+)::(\S+): no proof: .*`search` did not prove")
 UNFIT = re.compile(r"is not in scope|has no field|has no `")
+# what is no proof that fails, but a text that is none
+UNREAD = re.compile(r"is no name|operand is missing|expected the end|cannot continue")
 
 
 class Verdict:
@@ -419,7 +421,7 @@ class Verdict:
                 file, name, said = m.groups()
                 if "was not admitted" in said:
                     continue
-                if not file.startswith("proofs/"):
+                if not file.startswith("proofs/") or UNREAD.search(said):
                     self.misread = self.misread or f"{file}: {said}"
                 for refuser in proved_in(file) or [f"{file[len('proofs/'):-len('.antt')].replace('/', '.')}.{name}"]:
                     self.own.setdefault(refuser, line)

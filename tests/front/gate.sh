@@ -2,7 +2,8 @@
 toy "$work/toy"
 cd "$work/toy" || exit 1
 checks=$(sed -n "s/^checks='\(.*\)'$/\1/p" .ci/run)
-said_ok='rt: table proved\nrt: must-fail table/x.edit: refused, as it must be\nrt: ok; handles allowed: none; must-fail edits: 1 refused%s; every proof and must-fail edit was done in this run\n7 passed, 0 failed\n'
+edits=$(find crates -path '*/must-fail/*.edit' | wc -l)
+said_ok="rt: table proved\nrt: must-fail table/x.edit: refused, as it must be\nrt: ok; handles allowed: none; must-fail edits: $edits refused%s; every proof and must-fail edit was done in this run\n7 passed, 0 failed\n"
 # shellcheck disable=SC2059
 printf "$said_ok" '' > "$work/ci.said"
 cat > "$work/tools/rt" <<END
@@ -56,6 +57,13 @@ printf "$said_ok" ', 2 bad' > "$work/ci.said"
 ends 1 replayed bash .ci/run
 last '7 passed, 1 failed'
 wrote out 'rt ci FAILED: a must-fail edit is bad'
+
+# and so does one that rt did not try
+# shellcheck disable=SC2059
+printf "$said_ok" '' | sed "s/: $edits refused/: $((edits - 1)) refused/" > "$work/ci.said"
+ends 1 replayed bash .ci/run
+last '7 passed, 1 failed'
+wrote out "rt ci FAILED: not $edits must-fail edits refused"
 
 # where rt fails, its own tally is the last line, and nothing more is run
 printf 'rt: FAILED: table\n6 passed, 1 failed\n' > "$work/ci.said"
