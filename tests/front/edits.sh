@@ -66,7 +66,7 @@ wrote out 'table/level_65: NOT TRIED'
 
 # beside an edit that is refused, one that is not is not counted: with the prover, over what was proved last
 [ ! -d "$top/crates/table/out" ] || cp -R "$top/crates/table/out" crates/table/
-printf '# It changes nothing.\n# refused by: body_read\nfile: src/lib.rt\nold: if q == n {\nnew: if n == q {\n' > tests/edits/table/harmless.edit
+printf '# It changes nothing.\n# refused by: body_read\nfile: src/lib.rt\nold: if q == n {\nnew: if q == n + 0 {\n' > tests/edits/table/harmless.edit
 ends 1 tests/edits/run table/harmless table/no_nodes
 wrote out 'table/no_nodes: refused by entry_read' 'table/harmless: NOT REFUSED' '1 of 2 edits refused'
 mkdir -p tests/twins/table
