@@ -4,9 +4,8 @@ use Rattle.moves.specs.declared.Step.TheVariants.{Go}
 use Rattle.moves.specs.Ready.{resumes, stays}
 use Rattle.moves.proofs.resumed.Goals as goal
 
-pub returns-in_default : goal.returns-in_default
-returns-in_default c =
-    stays c.in_default.not-Value refl
+pub returns-in-Ok : goal.returns-in-Ok
+returns-in-Ok c = resumes _ c.in-Ok.is (ap Go c.tick.ensures)
 
-pub returns : goal.returns
-returns c = resumes _ c.in-Value.is (ap Go c.tick.ensures)
+pub returns-in-Err : goal.returns-in-Err
+returns-in-Err c = stays _ c.in-Err.is refl

@@ -14,4 +14,4 @@ resumed-requires c =
 
 pub returns : goal.returns
 returns c =
-    (stepped_resumed c.args.words.now c.args.ws.now c.args.locals.now c.args.plan c.args.s c.args.v c.args.top c.requires.0 c.requires.1 _ c.operated-computed.ensures _ c.resumed.ensures, ticks_resumed c.args.words.now c.args.ws.now _ c.args.v c.args.s c.args.top _ c.operated-computed.ensures _ c.resumed.ensures)
+    (stepped_resumed c.args.words.now c.args.ws.now c.args.locals.now c.args.plan c.args.s c.args.v c.args.top c.requires.0 c.requires.1 _ c.operated-computed.ensures _ c.resumed.ensures, ticks_resumed c.args.s c.args.top _ _ c.resumed.ensures)
