@@ -20,7 +20,7 @@ use Rattle.frames.proofs.Writes.{Loaded, is_loaded, is_appended}
 use Rattle.moves.specs.declared.Control.TheVariants.{Eval}
 use Rattle.frames.specs.declared.Seat.{Seat}
 use Rattle.moves.specs.declared.Stopped.{Stopped}
-use Rattle.moves.specs.Ready.{Stands, Sitting, locals_at, Child, Concluded, stop_at, placed, operation_of, operation}
+use Rattle.moves.specs.Ready.{Stands, Sitting, locals_at, Child, Concluded, stopped_at, placed_result, operation_of, operation}
 use Rattle.moves.proofs.Nodes.{start_inside, start_is, inside, operation_in}
 
 -- the seat of a frame that was read, with its node through the array of starts
@@ -43,7 +43,7 @@ module _ (w ws starts : List ℕ) (b : ℕ) (table : WellFormed w) (s : Stands w
     pub arithmetic_node : (o : Operation) × (x ≡ Arithmetic o (b_at w (start_of w (frame_function ws b)) (frame_node ws b)))
     arithmetic_node = let a = operation_in w table s t in (a.0, sym node_is ∙ a.1)
 
-    pub operation_is : (v : ℕ) (o : Operation) (d : ℕ) → x ≡ Arithmetic o d → (y : ℕ) → y ≡ frame_value ws b → operation w ws b v ≡ placed r.function r.node (computed o y v)
+    pub operation_is : (v : ℕ) (o : Operation) (d : ℕ) → x ≡ Arithmetic o d → (y : ℕ) → y ≡ frame_value ws b → operation w ws b v ≡ placed_result r.function r.node (computed o y v)
     unfolding operation_of
     operation_is v o d e y is_y = rw (node_is ∙ e, is, is_y)
 
@@ -83,10 +83,10 @@ module _ (w ws ls : List ℕ) (b : ℕ) (s : Sitting w ws ls b) where
       let two : count + 1 + 1 ≡ count + 2 = omega arith in
       (a'.sixteen, ap (λ (n : ℕ). take n ls') (sym two) ∙ a'.are ∙ rw (a.are, append_assoc, l.are))
 
--- a failure of an operation is told at its place
-pub placed_lem : (f p : ℕ) (c : Result ℕ Failure) (P : Failure → Stopped → Type 0) → ((e : Failure) (h : Stopped) → P e h → h ≡ stop_at (number_of e) f p) → (r : Result ℕ Stopped)
-    → MatchResult c (λ x. r ≡ Ok x) (λ e. IsErrAnd r (P e)) → r ≡ placed f p c
-unfolding placed
-placed_lem f p (Ok x) P told r u = u
-placed_lem f p (Err e) P told (Ok x) u = absurd u
-placed_lem f p (Err e) P told (Err h) u = ap Err (told e h u)
+-- a failure of an operation ends the run at its place
+pub placed_failure : (f p : ℕ) (c : Result ℕ Failure) (P : Failure → Stopped → Type 0) → ((e : Failure) (h : Stopped) → P e h → h ≡ stopped_at (number_of e) f p) → (r : Result ℕ Stopped)
+    → MatchResult c (λ x. r ≡ Ok x) (λ e. IsErrAnd r (P e)) → r ≡ placed_result f p c
+unfolding placed_result
+placed_failure f p (Ok x) P told r u = u
+placed_failure f p (Err e) P told (Ok x) u = absurd u
+placed_failure f p (Err e) P told (Err h) u = ap Err (told e h u)

@@ -34,7 +34,7 @@ use Rattle.moves.specs.declared.Stopped.{Stopped}
 use Rattle.moves.specs.declared.Step.{Step}
 use Rattle.moves.specs.declared.Step.TheVariants.{Go, Value, Halt}
 use Rattle.moves.specs.Layout.{code_at, slots, slot_of, slot_at, stack_of, control_of, run_counts_of, state_of, result_of, ticked, restarted, oldest_without, halted}
-use Rattle.moves.specs.Ready.{Stands, tag_of, Fitting, FittingAt, Held, Controlled, Oldest, Kept, Ready, Paid, KeptBy, Stepped, Returns, Sitting, Child, Concluded, Operand, called_at, stop_at, placed, operation_of, operation, Resumed, resumes, stays}
+use Rattle.moves.specs.Ready.{Stands, tag_of, Fitting, FittingAt, Held, Controlled, Oldest, Kept, Ready, Paid, KeptBy, Stepped, Returns, Sitting, Child, Concluded, Operand, called_at, stopped_at, placed_result, operation_of, operation, Resumed, resumes, stays}
 use Rattle.moves.proofs.Nodes.{start_is, arithmetic_in, operation_in, choose_in, let_in, both_in, called_in, argument_later, enter}
 use Rattle.moves.proofs.Frames.{frame_locals_lem, body_locals}
 use Rattle.moves.proofs.Stacks.{stack_more, held_more, held_top, same_slots, few_arguments}
@@ -407,7 +407,7 @@ module _ (w ws ls : List ℕ) (plan : Plan) (s : Registers) (v t : ℕ) (q : Ret
   unfolding arrive operated
   arrives = rw the_operation.1
 
-  steps : operation w ws (32 * t) v ≡ placed (frame_function ws (32 * t)) (frame_node ws (32 * t)) (computed the_operation.0 x v)
+  steps : operation w ws (32 * t) v ≡ placed_result (frame_function ws (32 * t)) (frame_node ws (32 * t)) (computed the_operation.0 x v)
   unfolding operation_of
   steps = rw the_operation.1
 
@@ -420,19 +420,19 @@ module _ (w ws ls : List ℕ) (plan : Plan) (s : Registers) (v t : ℕ) (q : Ret
       closed w ws ls plan s v t 1 q ls (Ret z) (return z) refl q.ready.kept.sixteen tt (λ y. omega arith)
       (closes w ws ls plan s v t 1 q paid frame (return z) a) _ refl
 
-  stepped_failure : Paid plan s → (i : ℕ) → arrive w frame v ≡ fail i → Stepped w ws ls plan s ws ls (Halt (stop_at i (frame_function ws (32 * t)) (frame_node ws (32 * t))))
+  stepped_failure : Paid plan s → (i : ℕ) → arrive w frame v ≡ fail i → Stepped w ws ls plan s ws ls (Halt (stopped_at i (frame_function ws (32 * t)) (frame_node ws (32 * t))))
   unfolding slot_of result_of KeptBy
   stepped_failure paid i a = record { same = returned w ws ls plan s v t 1 q ∙ fails w ws ls plan s v t 1 q paid frame i a; kept = tt; spared = spared_same ws }
 
   pub stepped_resumed : Paid plan s → (o : prelude.Result ℕ Stopped) → o ≡ operation w ws (32 * t) v → (r : Step) → Resumed s t o r → Stepped w ws ls plan s ws ls r
-  unfolding placed result
+  unfolding placed_result result
   stepped_resumed paid o e r u = by (computed the_operation.0 x v) (e ∙ steps) arrives u
     where
-      by : (c : prelude.Result ℕ Failure) → o ≡ placed (frame_function ws (32 * t)) (frame_node ws (32 * t)) c → arrive w frame v ≡ result c → Resumed s t o r → Stepped w ws ls plan s ws ls r
+      by : (c : prelude.Result ℕ Failure) → o ≡ placed_result (frame_function ws (32 * t)) (frame_node ws (32 * t)) c → arrive w frame v ≡ result c → Resumed s t o r → Stepped w ws ls plan s ws ls r
       by (Ok z) e a (resumes y i u) = let y≡z : y ≡ z = cc in rw (u, y≡z) (stepped_result paid z a)
       by (Ok z) e a (stays h i u) = let no : ◌≡◌ {A = ℕ} 0 1 = cc in absurd (omega arith)
       by (Err d) e a (resumes y i u) = let no : ◌≡◌ {A = ℕ} 0 1 = cc in absurd (omega arith)
-      by (Err d) e a (stays h i u) = let is : h ≡ stop_at (number_of d) (frame_function ws (32 * t)) (frame_node ws (32 * t)) = cc in rw (u, is) (stepped_failure paid (number_of d) a)
+      by (Err d) e a (stays h i u) = let is : h ≡ stopped_at (number_of d) (frame_function ws (32 * t)) (frame_node ws (32 * t)) = cc in rw (u, is) (stepped_failure paid (number_of d) a)
 
 -- NO FUEL: a frame that is not promoted is not reached
 module _ (w ws ls : List ℕ) (plan : Plan) (s : Registers) (v t kind : ℕ) (q : Returns w ws ls plan s v t kind) (dry : plan.fuel.0 ≤ s.transitions) where

@@ -207,22 +207,24 @@ pub record Operand (w ws : List ℕ) (b : ℕ) : Type 0 where
   pub stands : Stands w (frame_function ws b) (frame_node ws b) (frame_count ws b)
   pub tag : tag_at w (start_of w (frame_function ws b)) (frame_node ws b) ≡ 2
 
-abbrev pub stop_at : ℕ → ℕ → ℕ → Stopped
-stop_at i f p = record { number = i; function = f; node = p }
+-- a stop by its number, function and node
+abbrev pub stopped_at : ℕ → ℕ → ℕ → Stopped
+stopped_at i f p = record { number = i; function = f; node = p }
 
-unfoldable pub placed : ℕ → ℕ → Result ℕ Failure → Result ℕ Stopped
-placed f p (Ok r) = Ok r
-placed f p (Err e) = Err (stop_at (number_of e) f p)
+-- what an operation gives, its stop with function and node
+unfoldable pub placed_result : ℕ → ℕ → Result ℕ Failure → Result ℕ Stopped
+placed_result f p (Ok r) = Ok r
+placed_result f p (Err e) = Err (stopped_at (number_of e) f p)
 
 unfoldable pub operation_of : ℕ → ℕ → ℕ → ℕ → Node → Result ℕ Stopped
-operation_of f p x y (Constant v) = Err (stop_at 4 f p)
-operation_of f p x y (Local slot) = Err (stop_at 4 f p)
-operation_of f p x y (Arithmetic o b) = placed f p (computed o x y)
-operation_of f p x y (Choose b c) = Err (stop_at 4 f p)
-operation_of f p x y (Let b) = Err (stop_at 4 f p)
-operation_of f p x y (Call g b c) = Err (stop_at 4 f p)
-operation_of f p x y (Both b c) = Err (stop_at 4 f p)
-operation_of f p x y Unknown = Err (stop_at 4 f p)
+operation_of f p x y (Constant v) = Err (stopped_at 4 f p)
+operation_of f p x y (Local slot) = Err (stopped_at 4 f p)
+operation_of f p x y (Arithmetic o b) = placed_result f p (computed o x y)
+operation_of f p x y (Choose b c) = Err (stopped_at 4 f p)
+operation_of f p x y (Let b) = Err (stopped_at 4 f p)
+operation_of f p x y (Call g b c) = Err (stopped_at 4 f p)
+operation_of f p x y (Both b c) = Err (stopped_at 4 f p)
+operation_of f p x y Unknown = Err (stopped_at 4 f p)
 
 abbrev pub operation : List ℕ → List ℕ → ℕ → ℕ → Result ℕ Stopped
 operation w ws b v = operation_of (frame_function ws b) (frame_node ws b) (frame_value ws b) v (node_at w (start_of w (frame_function ws b)) (frame_node ws b))

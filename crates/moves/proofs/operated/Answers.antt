@@ -2,8 +2,8 @@
 use Rattle.std.proofs.Common.{rules}
 use native.Mathlib.Omega.{arith}
 use mathlib.Core.Path.{ap, sym, ◌∙◌}
-use Rattle.moves.specs.Ready.{placed}
-use Rattle.moves.proofs.Frames.{arithmetic_node, operation_is, placed_lem, frame_start, frame_inside}
+use Rattle.moves.specs.Ready.{placed_result}
+use Rattle.moves.proofs.Frames.{arithmetic_node, operation_is, placed_failure, frame_start, frame_inside}
 use Rattle.moves.proofs.operated.Goals as goal
 
 pub offset_bounds-starts-function : goal.offset_bounds-starts-function
@@ -25,5 +25,5 @@ returns-in_default c =
 
 pub returns : goal.returns
 returns c =
-    placed_lem _ _ c.operate.result _ (λ e h q. search rules) c.map_err.result c.map_err.ensures.cases
-    ∙ sym (operation_is _ c.args.ws.now _ c.args.b c.requires.0.table c.requires.0.stands c.requires.1 _ c.seat_of-seat.ensures c.requires.0.tag _ c.node_at.ensures c.args.v _ _ c.in-Arithmetic.is _ c.value_of.ensures ∙ ap (placed _ _) (sym c.operate.ensures))
+    placed_failure _ _ c.operate.result _ (λ e h q. search rules) c.map_err.result c.map_err.ensures.cases
+    ∙ sym (operation_is _ c.args.ws.now _ c.args.b c.requires.0.table c.requires.0.stands c.requires.1 _ c.seat_of-seat.ensures c.requires.0.tag _ c.node_at.ensures c.args.v _ _ c.in-Arithmetic.is _ c.value_of.ensures ∙ ap (placed_result _ _) (sym c.operate.ensures))
