@@ -1,14 +1,13 @@
 -- A value that returns to an arithmetic frame: where the right operand is simple, the operation is made and the frame closed.
+use Rattle.std.specs.Prelude.{Ok}
 use Prim.Native.Nat.{ℕ, ◌+◌, ◌*◌, ◌≤◌, ◌<◌}
-use mathlib.Core.Path.{◌≡◌, sym, ◌∙◌}
+use mathlib.Core.Path.{◌≡◌}
 use mathlib.Core.List.{List}
 use native.Mathlib.Omega.{arith}
 use lib.ListN.{length, get_or}
 use Rattle.table.specs.Words.{start_of, body_at, b_at}
 use Rattle.table.specs.Read.{starts_of}
 use Rattle.table.proofs.Views.{at_arithmetic}
-use Rattle.arithmetic.specs.declared.Computed.{Computed}
-use Rattle.arithmetic.specs.declared.Computed.TheVariants.{Is}
 use Rattle.arithmetic.specs.Operate.{computed}
 use Rattle.frames.specs.declared.Seat.{Seat}
 use Rattle.frames.specs.Frames.{locals_word, frame_function, frame_node, frame_count, seat_at, frame_locals}
@@ -67,14 +66,14 @@ module _ {w ws starts : List ℕ} (top : ℕ) (op : Operand w ws (32 * top)) (e 
     right_simple is-k some = simple_fits w F op.table ws (locals_word (32 * top)) right_stands _ right_here locals_here (rw is-k at some)
 
     -- it has the value y by k transitions, and the operation the value z
-    pub rebounded : {g next : Compact} {v k h y z : ℕ} {c c' : Computed} → k ≡ cost_at w (get_or starts r.function 0 + 4 * q) → h ≡ frames_of k
-        → (0 < k) × Roomy g (k + 2) h → c ≡ simple_at w (get_or starts r.function 0 + 4 * q) ws (locals_word (32 * top)) → c ≡ Is y
-        → c' ≡ computed (numbered (get_or w (get_or starts r.function 0 + 4 * r.node + 1) 0)) v y → c' ≡ Is z → next ≡ later_of g (Ret z) top (k + 2) → Rebound w ws g v top next
-    rebounded {g} {next} {v} {k} {h} {y} {z} is-k is-h room is_c value is-c' result n =
+    pub rebounded : {g next : Compact} {v k h y z : ℕ} → k ≡ cost_at w (get_or starts r.function 0 + 4 * q) → h ≡ frames_of k
+        → (0 < k) × Roomy g (k + 2) h → simple_at w (get_or starts r.function 0 + 4 * q) ws (locals_word (32 * top)) ≡ Ok y
+        → computed (numbered (get_or w (get_or starts r.function 0 + 4 * r.node + 1) 0)) v y ≡ Ok z → next ≡ later_of g (Ret z) top (k + 2) → Rebound w ws g v top next
+    rebounded {g} {next} {v} {k} {h} {y} {z} is-k is-h room value result n =
         let a = at_arithmetic w (body_at w F) op.stands.tree op.tag in
         let same = two_node w F P a.0 (b_at w (start_of w F) P) op.tag a.1 in
-        let done : computed a.0 v y ≡ Is z = rw (← same, ← node_here) (sym is-c' ∙ result) in
-        let right = simple_leads w F op.table ws (locals_word (32 * top)) right_stands _ right_here locals_here (rw is-k at room.0) y (sym is_c ∙ value) in
+        let done : computed a.0 v y ≡ Ok z = rw (← same, ← node_here) result in
+        let right = simple_leads w F op.table ws (locals_word (32 * top)) right_stands _ right_here locals_here (rw is-k at room.0) y value in
         let through = right_through w F P (frame_locals ws (32 * top)) a.0 (b_at w (start_of w F) P) v y z k h a.1 (rw (← is-k, ← is-h, q_is) at right) done in
         let x : k + 2 ≡ k + 1 + 1 = omega arith in
         record { value = z; more = k + 1; most = h; is = rw x at n; through = rw x at through; room = rw x at room.1 }

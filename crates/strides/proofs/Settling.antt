@@ -33,7 +33,7 @@ use Rattle.compact.specs.declared.Compact.{Compact}
 use Rattle.compact.specs.declared.Event.{Event}
 use Rattle.compact.specs.declared.Event.TheVariants.{Fork, Turn, Join}
 use Rattle.compact.specs.declared.Progress.{Progress}
-use Rattle.compact.specs.Compact.{full, step_of, PacedBy, compact_of, settled_of, Settles, freed_by, Transits, Small}
+use Rattle.compact.specs.Compact.{full, step_of, PacedBy, compact_of, answer_of, settled_of, Settles, freed_by, Transits, Small}
 use Rattle.compact.proofs.Keeping.{compact_full, compact_paced}
 use Rattle.operands.specs.Operands.{leaf_at}
 use Rattle.strides.specs.Strides.{one, Starts, Calm, Returning, Forks, Occurs, Strides, Frees, Evaluating}
@@ -117,13 +117,13 @@ module _ (w ws ls : List ℕ) (plan : Plan) (g : Compact) (s : Starts w ws ls pl
 
     -- a step's answer in any compact registers that stand for it
     step_advanced : (o : Step) → Advanced w ws ls plan (full g) ws' ls' o → (r : Progress) → step_of r ≡ step_of (settled_of plan o) → Advanced w ws ls plan (full g) ws' ls' (step_of r)
-    unfolding settled_of step_of Settles
+    unfolding answer_of step_of Settles
     step_advanced (Go next) a r e = let x = step_settles (Go next) a in rw (e, compact_full plan next x.0 x.1 x.2) a
     step_advanced (Value v) a r e = rw e a
     step_advanced (Halt h) a r e = rw e a
 
     step_paced : (o : Step) → Advanced w ws ls plan (full g) ws' ls' o → PacedBy plan (settled_of plan o)
-    unfolding settled_of PacedBy Settles
+    unfolding answer_of PacedBy Settles
     step_paced (Go next) a = let x = step_settles (Go next) a in compact_paced plan next x.0 x.1 x.2
     step_paced (Value v) a = tt
     step_paced (Halt h) a = tt
@@ -133,14 +133,14 @@ module _ (w ws ls : List ℕ) (plan : Plan) (g : Compact) (s : Starts w ws ls pl
     step_strides o a up r e = rw e (record { strode = one (step_advanced o a (settled_of plan o) refl); paced = step_paced o a; transits = by o up })
       where
         by : (o : Step) → Rises g.transitions o → Transits g (settled_of plan o)
-        by (Go next) up = unfold settled_of Transits in up next refl
-        by (Value v) up = unfold settled_of Transits in tt
-        by (Halt h) up = unfold settled_of Transits in tt
+        by (Go next) up = unfold answer_of Transits in up next refl
+        by (Value v) up = unfold answer_of Transits in tt
+        by (Halt h) up = unfold answer_of Transits in tt
 
     -- one that is free
     pub step_frees : (event : Event) (o : Step) → Advanced w ws ls plan (full g) ws' ls' o → (next : Registers) → o ≡ Go next → Occurs w ws ls plan g (compact_of plan next) event
         → (r : Progress) → r ≡ freed_by event (settled_of plan o) → Frees w ws ls plan g event ws' ls' r
-    unfolding settled_of freed_by Settles
+    unfolding answer_of freed_by Settles
     step_frees event o a next e occurs r u =
         let b : Advanced w ws ls plan (full g) ws' ls' (Go next) = rw e at a in
         let x = step_settles (Go next) b in

@@ -1,6 +1,6 @@
 -- `strides::ret_paid` meets its contract, by the laws of Striding.
+use native.Mathlib.Omega.{arith}
 use Rattle.strides.proofs.Striding.{settles, paid_strides, ticks_strides, kind_is, asked}
-use Rattle.moves.proofs.Returning.{last_kind}
 use Rattle.strides.proofs.ret_paid.Goals as goal
 
 pub ret_left-requires : goal.ret_left-requires
@@ -33,7 +33,7 @@ settle-requires c =
 
 pub ret_plain_right-requires : goal.ret_plain_right-requires
 ret_plain_right-requires c =
-    let r = c.in_default.in_default-own.rest in asked c.args.words.now c.args.ws.now c.args.locals.now c.args.plan c.args.g c.args.v c.args.top _ c.requires.0 _ c.expand-s.ensures 6 (last_kind c.args.kind r.0.0.0.0.0.1 r.0.0.0.0.1 r.0.0.0.1 r.0.0.1 r.0.1 r.1 c.requires.1) c.requires.2 _ c.requires.3
+    asked c.args.words.now c.args.ws.now c.args.locals.now c.args.plan c.args.g c.args.v c.args.top _ c.requires.0 _ c.expand-s.ensures 6 (omega arith) c.requires.2 _ c.requires.3
 
 pub returns-in-1 : goal.returns-in-1
 returns-in-1 c =
