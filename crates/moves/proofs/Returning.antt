@@ -4,7 +4,7 @@ use mathlib.Core.Path.{◌≡◌, refl, sym, ap, ◌∙◌}
 use mathlib.Core.Bool.{Bool, true, false, cond}
 use mathlib.Core.List.{List, [], ◌∷◌, ◌++◌}
 use native.Mathlib.Omega.{arith}
-use lib.ListN.{length, get_or, take, drop, length-drop, length-append, get_or-eq_default}
+use lib.ListN.{length, take, drop, length-drop, length-append, get_or-eq_default}
 use lib.Seq.{length-take-le}
 use lib.Dec.{ltb, eqb}
 use borrow.Author.Tests.{lt-ltb, le-ltb}
@@ -15,7 +15,6 @@ use Rattle.schedule.specs.Machine.{Slot, ordinary, plain_right, promoted_right, 
 use Rattle.schedule.specs.Bounds.{total, kept_spans}
 use Rattle.table.specs.Words.{functions, arity_at, start_of, tag_at, a_at, b_at}
 use Rattle.table.specs.Nodes.{node_at}
-use Rattle.table.specs.Read.{starts_of}
 use Rattle.frames.specs.Frames.{seat_at, locals_word, arguments_word, frame_kind, frame_function, frame_node, frame_count, frame_value, frame_before, frame_left, frame_locals, frame_arguments, turned, collected, loaded, appended}
 use Rattle.frames.proofs.Writes.{Turned, Loaded, is_turned, is_collected, is_loaded, is_appended}
 use Rattle.table.specs.declared.Operation.{Operation}
@@ -33,7 +32,7 @@ use Rattle.moves.specs.declared.Step.{Step}
 use Rattle.moves.specs.declared.Step.TheVariants.{Go, Value}
 use Rattle.moves.specs.Layout.{code_at, slots, slot_of, slot_at, stack_of, control_of, run_counts_of, state_of, result_of, ticked, restarted, oldest_without, halted}
 use Rattle.moves.specs.Ready.{Stands, tag_of, Fitting, FittingAt, Held, Controlled, Oldest, Kept, Ready, Paid, KeptBy, Stepped, Returns, Sitting, Child, Concluded, Operand, called_at, step_of, operation_of, operation, Resumed, resumes, stays}
-use Rattle.moves.proofs.Nodes.{start_is, arithmetic_in, operation_in, choose_in, let_in, both_in, called_in, argument_later, enter}
+use Rattle.moves.proofs.Nodes.{arithmetic_in, operation_in, choose_in, let_in, both_in, called_in, argument_later, enter}
 use Rattle.moves.proofs.Frames.{frame_locals_lem, body_locals}
 use Rattle.moves.proofs.Stacks.{stack_more, held_more, held_top, same_slots, few_arguments}
 use Rattle.moves.proofs.OldestFork.{oldest_other, oldest_under, oldest_without_lem, without_none}
@@ -324,10 +323,10 @@ module _ (w ws ls : List ℕ) (plan : Plan) (s : Registers) (v t : ℕ) where
       spared = spared_same ws;
     })
 
-  -- the function that a call's frame calls, read through the array of starts
-  module _ (q : Returns w ws ls plan s v t 4) (starts : List ℕ) (e : starts ≡ starts_of w) (r : Seat) (is : r ≡ seat_at ws (32 * t)) (g : ℕ) (is-g : g ≡ a_at w (get_or starts r.function 0) r.node) where
+  -- the function that a call's frame calls
+  module _ (q : Returns w ws ls plan s v t 4) {r : Seat} (is : r ≡ seat_at ws (32 * t)) {start : ℕ} (e : start ≡ start_of w r.function) {g : ℕ} (is-g : g ≡ a_at w start r.node) where
     pub called_here : g ≡ called_at w ws (32 * t)
-    called_here = is-g ∙ rw (is, start_is w q.ready.kept.table starts e (top w ws ls plan s v t 4 q).stands)
+    called_here = is-g ∙ rw (e, is)
 
     pub called_inside : 2 * g + 1 < length w
     called_inside = omega (arith, called_here, called_in w q.ready.kept.table (top w ws ls plan s v t 4 q).stands (tag_here w ws ls plan s v t 4 q), q.ready.kept.table.contents.header.room)

@@ -8,19 +8,19 @@ use Rattle.moves.proofs.body.Goals as goal
 
 pub append-requires : goal.append-requires
 append-requires c =
-    let k : c.child-seat.result.count ≡ frame_count c.args.ws.now c.args.b = ap (λ (z : Seat). z.count) c.child-seat.ensures.seat in omega (arith, c.child-seat.auto.locals, c.requires.0.sixteen, c.requires.2)
+    let k : c.child-seat.result.count ≡ frame_count c.args.ws.now c.args.b = ap (λ (z : Seat). z.count) c.child-seat.ensures.seat in omega (arith, c.child-seat.auto.locals, c.requires.0.sixteen, c.requires.1)
 
 pub overflow_add-count : goal.overflow_add-count
 overflow_add-count c =
-    let k : c.child-seat.result.count ≡ frame_count c.args.ws.now c.args.b = ap (λ (z : Seat). z.count) c.child-seat.ensures.seat in omega (arith, c.requires.2)
+    let k : c.child-seat.result.count ≡ frame_count c.args.ws.now c.args.b = ap (λ (z : Seat). z.count) c.child-seat.ensures.seat in omega (arith, c.requires.1)
 
 pub append-requires-2 : goal.append-requires-2
 append-requires-2 c =
-    let k : c.child-seat.result.count ≡ frame_count c.args.ws.now c.args.b = ap (λ (z : Seat). z.count) c.child-seat.ensures.seat in omega (arith, c.append.auto.locals, c.child-seat.auto.locals, c.requires.0.sixteen, c.requires.2)
+    let k : c.child-seat.result.count ≡ frame_count c.args.ws.now c.args.b = ap (λ (z : Seat). z.count) c.child-seat.ensures.seat in omega (arith, c.append.auto.locals, c.child-seat.auto.locals, c.requires.0.sixteen, c.requires.1)
 
 pub overflow_add-result : goal.overflow_add-result
 overflow_add-result c =
-    let k : c.child-seat.result.count ≡ frame_count c.args.ws.now c.args.b = ap (λ (z : Seat). z.count) c.child-seat.ensures.seat in omega (arith, c.requires.2)
+    let k : c.child-seat.result.count ≡ frame_count c.args.ws.now c.args.b = ap (λ (z : Seat). z.count) c.child-seat.ensures.seat in omega (arith, c.requires.1)
 
 pub returns : goal.returns
 returns c =

@@ -1,33 +1,27 @@
 -- `moves::operated` meets its contract, by the laws of Frames.
-use native.Mathlib.Omega.{arith}
 use mathlib.Core.Path.{ap, sym, ◌∙◌}
 use Rattle.moves.specs.Ready.{step_of}
 use Rattle.moves.proofs.Frames.{arithmetic_node, operation_is, frame_start, frame_inside}
 use Rattle.moves.proofs.operated.Goals as goal
 
-pub offset_bounds-starts-function : goal.offset_bounds-starts-function
-offset_bounds-starts-function c =
-    omega (arith, frame_start c.args.words.now c.args.ws.now c.args.starts.now c.args.b c.requires.0.table c.requires.0.stands c.requires.1 c.seat_of-seat.result c.seat_of-seat.ensures)
-
-pub bounds-starts-function : goal.bounds-starts-function
-bounds-starts-function c =
-    frame_start _ c.args.ws.now _ c.args.b c.requires.0.table c.requires.0.stands c.requires.1 _ c.seat_of-seat.ensures
+pub start-requires : goal.start-requires
+start-requires c = frame_start c.args.ws.now c.args.b c.requires.table c.requires.stands c.seat_of-seat.ensures
 
 pub node_at-node-requires : goal.node_at-node-requires
 node_at-node-requires c =
-    frame_inside _ c.args.ws.now _ c.args.b c.requires.0.table c.requires.0.stands c.requires.1 _ c.seat_of-seat.ensures
+    frame_inside c.args.ws.now c.args.b c.requires.table c.requires.stands c.seat_of-seat.ensures c.start.ensures
 
 pub returns-in_default : goal.returns-in_default
 returns-in_default c =
-    let a = arithmetic_node _ c.args.ws.now _ c.args.b c.requires.0.table c.requires.0.stands c.requires.1 _ c.seat_of-seat.ensures c.requires.0.tag _ c.node_at-node.ensures in
+    let a = arithmetic_node c.args.ws.now c.args.b c.requires.table c.requires.stands c.seat_of-seat.ensures c.start.ensures c.requires.tag c.node_at-node.ensures in
     absurd (c.in_default.not-Arithmetic _ _ a.1)
 
 pub returns-in-Is : goal.returns-in-Is
 unfolding step_of
 returns-in-Is c =
-    sym (operation_is _ c.args.ws.now _ c.args.b c.requires.0.table c.requires.0.stands c.requires.1 _ c.seat_of-seat.ensures c.requires.0.tag _ c.node_at-node.ensures c.args.v _ _ c.in-Arithmetic.is _ c.value_of.ensures ∙ ap (step_of _ _) (sym c.operate.ensures ∙ c.in-Is.is))
+    sym (operation_is c.args.ws.now c.args.b c.requires.table c.requires.stands c.seat_of-seat.ensures c.start.ensures c.requires.tag c.node_at-node.ensures c.args.v c.in-Arithmetic.is c.value_of.ensures ∙ ap (step_of _ _) (sym c.operate.ensures ∙ c.in-Is.is))
 
 pub returns-in-Fails : goal.returns-in-Fails
 unfolding step_of
 returns-in-Fails c =
-    c.halt-in-Fails.ensures ∙ sym (operation_is _ c.args.ws.now _ c.args.b c.requires.0.table c.requires.0.stands c.requires.1 _ c.seat_of-seat.ensures c.requires.0.tag _ c.node_at-node.ensures c.args.v _ _ c.in-Arithmetic.is _ c.value_of.ensures ∙ ap (step_of _ _) (sym c.operate.ensures ∙ c.in-Fails.is))
+    c.halt-in-Fails.ensures ∙ sym (operation_is c.args.ws.now c.args.b c.requires.table c.requires.stands c.seat_of-seat.ensures c.start.ensures c.requires.tag c.node_at-node.ensures c.args.v c.in-Arithmetic.is c.value_of.ensures ∙ ap (step_of _ _) (sym c.operate.ensures ∙ c.in-Fails.is))

@@ -6,12 +6,12 @@ use Rattle.moves.proofs.ret_condition.Goals as goal
 
 pub child-seat-requires : goal.child-seat-requires
 child-seat-requires c =
-    (sitting c.args.words.now c.args.ws.now c.args.locals.now c.args.plan c.args.s c.args.v c.args.top 2 c.requires.0, c.requires.2)
+    sitting c.args.job.words.now c.args.ws.now c.args.locals.now c.args.plan c.args.s c.args.v c.args.top 2 c.requires.0
 
 pub tick-requires : goal.tick-requires
 tick-requires c =
-    let b = bounds c.args.words.now c.args.ws.now c.args.locals.now c.args.plan c.args.s c.requires.0.ready in (b.0, b.1, b.2)
+    let b = bounds c.args.job.words.now c.args.ws.now c.args.locals.now c.args.plan c.args.s c.requires.0.ready in (b.0, b.1, b.2)
 
 pub returns : goal.returns
 returns c =
-    (stepped_condition c.args.words.now c.args.ws.now c.args.locals.now c.args.plan c.args.s c.args.v c.args.top c.requires.0 c.requires.1 _ _ c.child-seat.ensures _ c.tick.ensures, ticks_go c.args.s _ _ _ c.tick.ensures)
+    (stepped_condition c.args.job.words.now c.args.ws.now c.args.locals.now c.args.plan c.args.s c.args.v c.args.top c.requires.0 c.requires.1 _ _ c.child-seat.ensures _ c.tick.ensures, ticks_go c.args.s _ _ _ c.tick.ensures)

@@ -6,16 +6,16 @@ use Rattle.moves.proofs.ret_left_operand.Goals as goal
 
 pub turn-requires : goal.turn-requires
 turn-requires c =
-    room c.args.words.now c.args.ws.now c.args.locals.now c.args.plan c.args.s c.args.v c.args.top 0 c.requires.0
+    room c.args.job.words.now c.args.ws.now c.args.locals.now c.args.plan c.args.s c.args.v c.args.top 0 c.requires.0
 
 pub child-seat-requires : goal.child-seat-requires
 child-seat-requires c =
-    (sitting_turned c.args.words.now c.args.ws.now c.args.locals.now c.args.plan c.args.s c.args.v c.args.top 0 c.requires.0 1 0 _ c.turn.auto.ws (rw c.none.ensures at c.turn.ensures), c.requires.2)
+    sitting_turned c.args.job.words.now c.args.ws.now c.args.locals.now c.args.plan c.args.s c.args.v c.args.top 0 c.requires.0 1 0 _ c.turn.auto.ws (rw c.none.ensures at c.turn.ensures)
 
 pub tick-requires : goal.tick-requires
 tick-requires c =
-    let b = bounds c.args.words.now c.args.ws.now c.args.locals.now c.args.plan c.args.s c.requires.0.ready in (b.0, b.1, b.2)
+    let b = bounds c.args.job.words.now c.args.ws.now c.args.locals.now c.args.plan c.args.s c.requires.0.ready in (b.0, b.1, b.2)
 
 pub returns : goal.returns
 returns c =
-    (stepped_left_operand c.args.words.now c.args.ws.now c.args.locals.now c.args.plan c.args.s c.args.v c.args.top c.requires.0 c.requires.1 _ _ _ c.turn.auto.ws (rw c.none.ensures at c.turn.ensures) c.child-seat.ensures _ c.tick.ensures, ticks_go c.args.s _ _ _ c.tick.ensures)
+    (stepped_left_operand c.args.job.words.now c.args.ws.now c.args.locals.now c.args.plan c.args.s c.args.v c.args.top c.requires.0 c.requires.1 _ _ _ c.turn.auto.ws (rw c.none.ensures at c.turn.ensures) c.child-seat.ensures _ c.tick.ensures, ticks_go c.args.s _ _ _ c.tick.ensures)

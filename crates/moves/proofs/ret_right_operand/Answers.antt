@@ -6,12 +6,12 @@ use Rattle.moves.proofs.ret_right_operand.Goals as goal
 
 pub operated-computed-requires : goal.operated-computed-requires
 operated-computed-requires c =
-    (operand c.args.words.now c.args.ws.now c.args.locals.now c.args.plan c.args.s c.args.v c.args.top c.requires.0, c.requires.2)
+    operand c.args.job.words.now c.args.ws.now c.args.locals.now c.args.plan c.args.s c.args.v c.args.top c.requires.0
 
 pub resumed-requires : goal.resumed-requires
 resumed-requires c =
-    let b = bounds c.args.words.now c.args.ws.now c.args.locals.now c.args.plan c.args.s c.requires.0.ready in (b.0, b.1, b.2)
+    let b = bounds c.args.job.words.now c.args.ws.now c.args.locals.now c.args.plan c.args.s c.requires.0.ready in (b.0, b.1, b.2)
 
 pub returns : goal.returns
 returns c =
-    (stepped_resumed c.args.words.now c.args.ws.now c.args.locals.now c.args.plan c.args.s c.args.v c.args.top c.requires.0 c.requires.1 _ c.operated-computed.ensures _ c.resumed.ensures, ticks_resumed c.args.words.now c.args.ws.now _ c.args.v c.args.s c.args.top _ c.operated-computed.ensures _ c.resumed.ensures)
+    (stepped_resumed c.args.job.words.now c.args.ws.now c.args.locals.now c.args.plan c.args.s c.args.v c.args.top c.requires.0 c.requires.1 _ c.operated-computed.ensures _ c.resumed.ensures, ticks_resumed c.args.job.words.now c.args.ws.now _ c.args.v c.args.s c.args.top _ c.operated-computed.ensures _ c.resumed.ensures)
