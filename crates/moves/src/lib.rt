@@ -205,7 +205,7 @@ pub fn fork(ws: &mut [u64], locals: &[u64], s: Registers, seat: Seat) -> Step
 fn oldest_with(oldest: usize, depth: usize) -> usize
     ensures { result ≡ oldest_with oldest depth }
 {
-    if oldest < depth { oldest } else { depth }
+    oldest.min(depth)
 }
 
 // The same where the one at `top` is none any more.
@@ -552,12 +552,10 @@ fn search(ws: &[u64], from: usize, depth: usize) -> usize
     requires { (32 * depth ≤ length ws.now) × (from ≤ depth) × (depth ≤ 4096) }
     ensures { Found ws.now from depth result }
 {
-    let mut i = from;
-    while i < depth {
+    for i in from..depth {
         if kind_at(ws, i) == PLAIN_LEFT {
             return i;
         }
-        i += 1;
     }
     NO_FORK
 }
@@ -579,9 +577,5 @@ pub fn promote(ws: &mut [u64], s: Registers) -> Registers
 pub fn due(period: u64, credits: Credits, oldest: usize, depth: usize) -> bool
     ensures { result ≡ (leb period credits.0 && ltb oldest depth) }
 {
-    if credits.reach(period) {
-        oldest < depth
-    } else {
-        false
-    }
+    credits.reach(period) && oldest < depth
 }
