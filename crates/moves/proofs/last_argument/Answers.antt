@@ -1,6 +1,5 @@
 -- `moves::last_argument` meets its contract, by the laws of Returning, Steps, Ticking.
 use Rattle.moves.proofs.Returning.{room, few_here, stepped_last_argument}
-use Rattle.moves.proofs.Steps.{may_tick}
 use Rattle.moves.proofs.Ticking.{ticks_go}
 use native.Mathlib.Omega.{arith}
 use Rattle.moves.proofs.last_argument.Goals as goal
@@ -16,10 +15,6 @@ append-requires c =
 pub overflow_add-count : goal.overflow_add-count
 overflow_add-count c =
     omega (arith, few_here _ _ _ _ _ _ _ c.requires.0 c.args.n c.requires.2)
-
-pub tick-requires : goal.tick-requires
-tick-requires c =
-    may_tick c.requires.0.ready
 
 pub returns : goal.returns
 returns c =

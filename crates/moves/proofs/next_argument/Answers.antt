@@ -1,6 +1,5 @@
 -- `moves::next_argument` meets its contract, by the laws of Returning, Steps, Ticking.
 use Rattle.moves.proofs.Returning.{room, few_here, sitting_collected, stepped_next_argument}
-use Rattle.moves.proofs.Steps.{may_tick}
 use Rattle.moves.proofs.Ticking.{ticks_go}
 use native.Mathlib.Omega.{arith}
 use Rattle.moves.proofs.next_argument.Goals as goal
@@ -16,10 +15,6 @@ overflow_add-n c =
 pub child-seat-requires : goal.child-seat-requires
 child-seat-requires c =
     sitting_collected _ _ _ _ _ _ _ 4 c.requires.0 c.args.n (few_here _ _ _ _ _ _ _ c.requires.0 c.args.n c.requires.2) _ c.collect.auto.ws c.collect.ensures
-
-pub tick-requires : goal.tick-requires
-tick-requires c =
-    may_tick c.requires.0.ready
 
 pub returns : goal.returns
 returns c =

@@ -1,15 +1,8 @@
 -- `moves::operated` meets its contract, by the laws of Frames.
 use mathlib.Core.Path.{ap, sym, ◌∙◌}
 use Rattle.moves.specs.Ready.{step_of}
-use Rattle.moves.proofs.Frames.{arithmetic_node, operation_is, frame_start, frame_inside}
+use Rattle.moves.proofs.Frames.{arithmetic_node, operation_is}
 use Rattle.moves.proofs.operated.Goals as goal
-
-pub start-requires : goal.start-requires
-start-requires c = frame_start c.args.ws.now c.args.b c.requires.table c.requires.stands c.seat_of-seat.ensures
-
-pub node_at-node-requires : goal.node_at-node-requires
-node_at-node-requires c =
-    frame_inside c.args.ws.now c.args.b c.requires.table c.requires.stands c.seat_of-seat.ensures c.start.ensures
 
 pub returns-in_default : goal.returns-in_default
 returns-in_default c =

@@ -2,7 +2,7 @@
 use native.Mathlib.Omega.{arith}
 use Prim.Native.Nat.{◌*◌}
 use Rattle.moves.proofs.Frames.{frame_start, frame_inside}
-use Rattle.moves.proofs.Returning.{top, few_here, called_here, called_inside}
+use Rattle.moves.proofs.Returning.{top, few_here, called_inside}
 use Rattle.moves.proofs.ret_argument.Goals as goal
 
 pub start-requires : goal.start-requires
@@ -18,11 +18,3 @@ overflow_add-n c = omega (arith, few_here _ _ _ _ _ _ _ c.requires.0 _ c.value_o
 
 pub arity-requires : goal.arity-requires
 arity-requires c = called_inside _ _ _ _ _ _ _ c.requires.0 c.seat_of-seat.ensures c.start.ensures c.called-g.ensures
-
-pub next_argument-requires : goal.next_argument-requires
-next_argument-requires c =
-    (c.requires.0, c.requires.1, c.value_of-n.ensures, rw (c.arity.ensures, called_here _ _ _ _ _ _ _ c.requires.0 c.seat_of-seat.ensures c.start.ensures c.called-g.ensures) at c.if-n-arity.true)
-
-pub last_argument-requires : goal.last_argument-requires
-last_argument-requires c =
-    (c.requires.0, c.requires.1, c.value_of-n.ensures, rw c.arity.ensures at c.if-n-arity.false, called_here _ _ _ _ _ _ _ c.requires.0 c.seat_of-seat.ensures c.start.ensures c.called-g.ensures)

@@ -1,7 +1,6 @@
 -- `moves::ret_binding` meets its contract, by the laws of Returning, Steps, Ticking.
 use Rattle.frames.specs.Frames.{frame_count}
 use Rattle.moves.proofs.Returning.{sitting, binding_few, stepped_binding}
-use Rattle.moves.proofs.Steps.{may_tick}
 use Rattle.moves.proofs.Ticking.{ticks_go}
 use Rattle.frames.specs.declared.Seat.{Seat}
 use Prim.Native.Nat.{◌*◌}
@@ -16,14 +15,6 @@ child-seat-requires c =
 pub append-requires : goal.append-requires
 append-requires c =
     let k : c.child-seat.result.count ≡ frame_count c.args.ws.now (32 * c.args.top) = ap (λ (z : Seat). z.count) c.child-seat.ensures.seat in omega (arith, c.child-seat.auto.locals, c.requires.0.ready.kept.sixteen, binding_few _ _ _ _ _ _ _ c.requires.0)
-
-pub overflow_add-count : goal.overflow_add-count
-overflow_add-count c =
-    let k : c.child-seat.result.count ≡ frame_count c.args.ws.now (32 * c.args.top) = ap (λ (z : Seat). z.count) c.child-seat.ensures.seat in omega (arith, binding_few _ _ _ _ _ _ _ c.requires.0)
-
-pub tick-requires : goal.tick-requires
-tick-requires c =
-    may_tick c.requires.0.ready
 
 pub returns : goal.returns
 returns c =

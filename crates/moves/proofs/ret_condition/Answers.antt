@@ -1,16 +1,11 @@
 -- `moves::ret_condition` meets its contract, by the laws of Returning, Steps, Ticking.
 use Rattle.moves.proofs.Returning.{sitting, stepped_condition}
-use Rattle.moves.proofs.Steps.{may_tick}
 use Rattle.moves.proofs.Ticking.{ticks_go}
 use Rattle.moves.proofs.ret_condition.Goals as goal
 
 pub child-seat-requires : goal.child-seat-requires
 child-seat-requires c =
     sitting _ _ _ _ _ _ _ 2 c.requires.0
-
-pub tick-requires : goal.tick-requires
-tick-requires c =
-    may_tick c.requires.0.ready
 
 pub returns : goal.returns
 returns c =

@@ -1,20 +1,11 @@
 -- `moves::ret_left_operand` meets its contract, by the laws of Returning, Steps, Ticking.
-use Rattle.moves.proofs.Returning.{room, sitting_turned, stepped_left_operand}
-use Rattle.moves.proofs.Steps.{may_tick}
+use Rattle.moves.proofs.Returning.{sitting_turned, stepped_left_operand}
 use Rattle.moves.proofs.Ticking.{ticks_go}
 use Rattle.moves.proofs.ret_left_operand.Goals as goal
-
-pub turn-requires : goal.turn-requires
-turn-requires c =
-    room _ _ _ _ _ _ _ 0 c.requires.0
 
 pub child-seat-requires : goal.child-seat-requires
 child-seat-requires c =
     sitting_turned _ _ _ _ _ _ _ 0 c.requires.0 1 0 _ c.turn.auto.ws (rw c.none.ensures at c.turn.ensures)
-
-pub tick-requires : goal.tick-requires
-tick-requires c =
-    may_tick c.requires.0.ready
 
 pub returns : goal.returns
 returns c =

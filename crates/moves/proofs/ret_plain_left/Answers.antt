@@ -1,19 +1,10 @@
 -- `moves::ret_plain_left` meets its contract, by the laws of Returning, Steps.
-use Rattle.moves.proofs.Returning.{room, sitting_turned, stepped_plain_left}
-use Rattle.moves.proofs.Steps.{may_tick}
+use Rattle.moves.proofs.Returning.{sitting_turned, stepped_plain_left}
 use Rattle.moves.proofs.ret_plain_left.Goals as goal
-
-pub turn-requires : goal.turn-requires
-turn-requires c =
-    room _ _ _ _ _ _ _ 5 c.requires.0
 
 pub child-seat-requires : goal.child-seat-requires
 child-seat-requires c =
     sitting_turned _ _ _ _ _ _ _ 5 c.requires.0 6 0 _ c.turn.auto.ws (rw c.none.ensures at c.turn.ensures)
-
-pub tick-requires : goal.tick-requires
-tick-requires c =
-    may_tick c.requires.0.ready
 
 pub returns : goal.returns
 returns c =

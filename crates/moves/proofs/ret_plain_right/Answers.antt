@@ -1,16 +1,11 @@
 -- `moves::ret_plain_right` meets its contract, by the laws of Returning, Steps, Ticking.
 use Rattle.moves.proofs.Returning.{sitting, plain_few, stepped_plain_right}
-use Rattle.moves.proofs.Steps.{may_tick}
 use Rattle.moves.proofs.Ticking.{ticks_go}
 use Rattle.moves.proofs.ret_plain_right.Goals as goal
 
 pub body-control-requires : goal.body-control-requires
 body-control-requires c =
     (sitting _ _ _ _ _ _ _ 6 c.requires.0, plain_few _ _ _ _ _ _ _ c.requires.0)
-
-pub tick-requires : goal.tick-requires
-tick-requires c =
-    may_tick c.requires.0.ready
 
 pub returns : goal.returns
 returns c =

@@ -1,16 +1,11 @@
 -- `moves::ret_right_operand` meets its contract, by the laws of Returning, Steps, Ticking.
 use Rattle.moves.proofs.Returning.{operand, stepped_resumed}
-use Rattle.moves.proofs.Steps.{may_tick}
 use Rattle.moves.proofs.Ticking.{ticks_resumed}
 use Rattle.moves.proofs.ret_right_operand.Goals as goal
 
 pub operated-computed-requires : goal.operated-computed-requires
 operated-computed-requires c =
     operand _ _ _ _ _ _ _ c.requires.0
-
-pub resumed-requires : goal.resumed-requires
-resumed-requires c =
-    may_tick c.requires.0.ready
 
 pub returns : goal.returns
 returns c =

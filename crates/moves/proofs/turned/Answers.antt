@@ -1,11 +1,7 @@
 -- `moves::turned` meets its contract, by the laws of Returning.
-use Rattle.moves.proofs.Returning.{room, sitting_turned, stepped_turn}
+use Rattle.moves.proofs.Returning.{sitting_turned, stepped_turn}
 use Rattle.moves.proofs.Ticking.{restarts_go}
 use Rattle.moves.proofs.turned.Goals as goal
-
-pub turn-requires : goal.turn-requires
-turn-requires c =
-    room _ _ _ _ _ _ _ 7 c.requires
 
 pub child-seat-requires : goal.child-seat-requires
 child-seat-requires c =
