@@ -1,3 +1,2 @@
 -- Laws about the definitions of specs/: Cases for this crate's proofs, Results for other crates' too.
-mod Cases
 pub mod Results

@@ -1,112 +1,48 @@
 // The arithmetic of document 01: an operation on two 64-bit numbers gives a number, or the stop that ends the run.
 //
-// `operate` answers for each operation as `computed` of specs/Operate.antt says. Nothing here is wider than 64 bits: whether a sum or
-// a product fits is asked before it is made.
+// `operate` answers for each operation as `computed` of specs/Operate.antt says. Nothing here is wider than 64 bits: the library asks
+// whether a sum or a product fits before it makes it.
 
 #![tactic(auto)]
 
 ghost use Rattle.std.specs.Prelude.{◌≡◌};
-ghost use Rattle.table.specs.declared.Operation.TheVariants.{Add, Subtract, Multiply, Divide, Remainder, Less, Equal};
-ghost use Rattle.arithmetic.specs.Operate.{computed};
+ghost use Rattle.arithmetic.specs.Operate.{computed, number_of};
 
 use table::Operation;
 
-// A result, or the number of document 01's stop.
-#[derive(Clone, Copy)]
-pub enum Computed {
-    Is(u64),
-    Fails(u32),
+// Why an operation has no result.
+#[derive(Clone, Copy, Debug, PartialEq, Eq)]
+pub enum Failure {
+    TooLarge,
+    BelowZero,
+    DivisionByZero,
 }
 
-// The largest value: 01, "Values are unsigned 64-bit numbers".
-const LARGEST: u64 = 18446744073709551615;
+// The number of document 01's stop.
+impl From<Failure> for u32 {
+    ghost from_gives = { λ failure number. number ≡ number_of failure };
 
-// A sum fits iff `x` is at most the largest value less `y`.
-fn sum(x: u64, y: u64) -> Computed
-    ensures { result ≡ computed Add x y }
-{
-    if x <= LARGEST - y {
-        Computed::Is(x + y)
-    } else {
-        Computed::Fails(22)
-    }
-}
-
-fn difference(x: u64, y: u64) -> Computed
-    ensures { result ≡ computed Subtract x y }
-{
-    if y <= x {
-        Computed::Is(x - y)
-    } else {
-        Computed::Fails(23)
-    }
-}
-
-// A product fits iff `y` is 0 or `x` is at most the largest value divided by `y`.
-fn product(x: u64, y: u64) -> Computed
-    ensures { result ≡ computed Multiply x y }
-{
-    if y == 0 {
-        return Computed::Is(0);
-    }
-    if x <= LARGEST / y {
-        Computed::Is(x * y)
-    } else {
-        Computed::Fails(22)
-    }
-}
-
-fn quotient(x: u64, y: u64) -> Computed
-    ensures { result ≡ computed Divide x y }
-{
-    if y == 0 {
-        Computed::Fails(24)
-    } else {
-        Computed::Is(x / y)
-    }
-}
-
-fn remainder(x: u64, y: u64) -> Computed
-    ensures { result ≡ computed Remainder x y }
-{
-    if y == 0 {
-        Computed::Fails(24)
-    } else {
-        Computed::Is(x % y)
-    }
-}
-
-fn less(x: u64, y: u64) -> Computed
-    ensures { result ≡ computed Less x y }
-{
-    if x < y {
-        Computed::Is(1)
-    } else {
-        Computed::Is(0)
-    }
-}
-
-fn equal(x: u64, y: u64) -> Computed
-    ensures { result ≡ computed Equal x y }
-{
-    if x == y {
-        Computed::Is(1)
-    } else {
-        Computed::Is(0)
+    fn from(failure: Failure) -> u32 {
+        match failure {
+            Failure::TooLarge => 22,
+            Failure::BelowZero => 23,
+            Failure::DivisionByZero => 24,
+        }
     }
 }
 
 // The result of an arithmetic node, from the values of its two children, left first.
-pub fn operate(operation: Operation, x: u64, y: u64) -> Computed
+#[tactic(auto, unfolding(crate::specs::Operate::computed))]
+pub fn operate(operation: Operation, x: u64, y: u64) -> Result<u64, Failure>
     ensures { result ≡ computed operation x y }
 {
     match operation {
-        Operation::Add => sum(x, y),
-        Operation::Subtract => difference(x, y),
-        Operation::Multiply => product(x, y),
-        Operation::Divide => quotient(x, y),
-        Operation::Remainder => remainder(x, y),
-        Operation::Less => less(x, y),
-        Operation::Equal => equal(x, y),
+        Operation::Add => x.checked_add(y).ok_or(Failure::TooLarge),
+        Operation::Subtract => x.checked_sub(y).ok_or(Failure::BelowZero),
+        Operation::Multiply => x.checked_mul(y).ok_or(Failure::TooLarge),
+        Operation::Divide => x.checked_div(y).ok_or(Failure::DivisionByZero),
+        Operation::Remainder => x.checked_rem(y).ok_or(Failure::DivisionByZero),
+        Operation::Less => Ok(u64::from(x < y)),
+        Operation::Equal => Ok(u64::from(x == y)),
     }
 }

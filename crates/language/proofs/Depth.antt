@@ -1,5 +1,7 @@
 -- The depth of every answer: within the frames, all of them at a stop 21, and just as many as a value needs.
 use Prim.Native.Nat.{ℕ, zero, suc, ◌*◌, ◌≤◌}
+use Rattle.std.specs.Prelude as prelude
+use Rattle.std.specs.Prelude.{Ok, Err}
 use mathlib.Core.Path.{◌≡◌, refl, ap, ◌∙◌}
 use mathlib.Core.Bool.{Bool, true, false}
 use mathlib.Core.List.{List, [], ◌∷◌, ◌++◌}
@@ -11,9 +13,8 @@ use Rattle.table.specs.declared.Reading.TheVariants as reading
 use Rattle.table.specs.declared.Node.{Node}
 use Rattle.table.specs.declared.Node.TheVariants.{Constant, Local, Arithmetic, Choose, Let, Call, Both, Unknown}
 use Rattle.table.specs.Words.{arity_at}
-use Rattle.arithmetic.specs.declared.Computed.{Computed}
-use Rattle.arithmetic.specs.declared.Computed.TheVariants.{Is, Fails}
-use Rattle.arithmetic.specs.Operate.{computed}
+use Rattle.arithmetic.specs.declared.Failure.{Failure}
+use Rattle.arithmetic.specs.Operate.{computed, number_of}
 use Rattle.schedule.specs.Graph.{Graph}
 use Rattle.schedule.specs.Algebra.{graphs}
 use Rattle.schedule.specs.FrameMachine.{stuck, fail}
@@ -33,7 +34,7 @@ use Rattle.language.specs.Admitted.{Admitted}
 use Rattle.language.specs.Answers.{entry_code, told_by, after_check, run_of, answer_of, deepest_of}
 use Rattle.language.specs.Depth.{DepthsWithin, FullAtStop21, JustEnough}
 use Rattle.language.proofs.Admission.{checked_iff}
-use Rattle.language.proofs.Stops.{computed_fails}
+use Rattle.language.proofs.Stops.{number_known}
 use Rattle.language.proofs.House.{value_admitted}
 use Rattle.language.proofs.Values.{value_ran}
 
@@ -55,16 +56,16 @@ module _ (w : List ℕ) where
   next_not_21 c (Both b d) e = let no : ◌≡◌ {A = ℕ} 0 1 = cc in omega arith
   next_not_21 c Unknown e = let no : ◌≡◌ {A = ℕ} 4 21 = cc in omega arith
 
-  result_not_21 : (r : Computed) → ((i : ℕ) → r ≡ Fails i → 22 ≤ i) → result r ≡ fail 21 → ⊥
+  result_not_21 : (r : prelude.Result ℕ Failure) → result r ≡ fail 21 → ⊥
   unfolding result
-  result_not_21 (Is v) h e = let no : ◌≡◌ {A = ℕ} 0 1 = cc in omega arith
-  result_not_21 (Fails i) h e = let is : i ≡ 21 = cc in omega (arith, h i refl)
+  result_not_21 (Ok v) e = let no : ◌≡◌ {A = ℕ} 0 1 = cc in omega arith
+  result_not_21 (Err d) e = let is : number_of d ≡ 21 = cc in omega (arith, (number_known d).least)
 
   operated_not_21 : (n : Node) (x y : ℕ) → operated n x y ≡ fail 21 → ⊥
   unfolding operated
   operated_not_21 (Constant v) x y e = let no : ◌≡◌ {A = ℕ} 4 21 = cc in omega arith
   operated_not_21 (Local slot) x y e = let no : ◌≡◌ {A = ℕ} 4 21 = cc in omega arith
-  operated_not_21 (Arithmetic o b) x y e = result_not_21 (computed o x y) (λ i f. (computed_fails o x y i f).least) e
+  operated_not_21 (Arithmetic o b) x y e = result_not_21 (computed o x y) e
   operated_not_21 (Choose b d) x y e = let no : ◌≡◌ {A = ℕ} 4 21 = cc in omega arith
   operated_not_21 (Let b) x y e = let no : ◌≡◌ {A = ℕ} 4 21 = cc in omega arith
   operated_not_21 (Call f b d) x y e = let no : ◌≡◌ {A = ℕ} 4 21 = cc in omega arith

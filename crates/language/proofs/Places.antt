@@ -1,5 +1,6 @@
 -- The node of a frame or of a fork is the one whose evaluation opened it.
 use Prim.Native.Nat.{ℕ, zero, suc}
+use Rattle.std.specs.Prelude.{Result, Ok, Err}
 use mathlib.Core.Path.{◌≡◌}
 use mathlib.Core.Bool.{Bool, true, false, cond}
 use mathlib.Core.List.{List, [], ◌∷◌, ◌++◌}
@@ -12,8 +13,7 @@ use Rattle.table.specs.Words.{arity_at, start_of}
 use Rattle.table.specs.Nodes.{node_at}
 use Rattle.schedule.specs.FrameMachine.{Place, evaluate, go_on, open_frame, open_fork, stuck, close, keep, fail}
 use Rattle.schedule.specs.FrameMachine.{Next as FlatNext, Arrival as FlatArrival}
-use Rattle.arithmetic.specs.declared.Computed.{Computed}
-use Rattle.arithmetic.specs.declared.Computed.TheVariants.{Is, Fails}
+use Rattle.arithmetic.specs.declared.Failure.{Failure}
 use Rattle.arithmetic.specs.Operate.{computed}
 use Rattle.language.specs.Language as language
 use Rattle.language.specs.Language.{Code, Frame, left_operand, right_operand, condition, binding, argument, place, frame_place, result, operated, next, gathered, arrive}
@@ -51,10 +51,10 @@ module _ (w : List ℕ) where
   opened_at c (Both a b) = same_place (omega arith) (omega arith)
   opened_at c Unknown = tt
 
-  result_at : (p : Place) (r : Computed) → KeepsAt p (result r)
+  result_at : (p : Place) (r : Result ℕ Failure) → KeepsAt p (result r)
   unfolding result
-  result_at p (Is v) = tt
-  result_at p (Fails i) = tt
+  result_at p (Ok v) = tt
+  result_at p (Err e) = tt
 
   operated_at : (p : Place) (o : Node) (x v : ℕ) → KeepsAt p (operated o x v)
   unfolding operated

@@ -1,17 +1,18 @@
 -- What every stop of an accepted table tells: its nodes are known, and what is known leads to what is known (crate `schedule`, proofs/Stopping.antt). A
 -- code is known if it stands in a body's tree, and a frame if its node does and has the tag of its kind.
-use Prim.Native.Nat.{ℕ, zero, suc, ◌+◌, ◌-◌, ◌*◌, ◌/◌, ◌%◌, ◌^◌, ◌≤◌, ◌<◌}
+use Prim.Native.Nat.{ℕ, zero, suc, ◌+◌, ◌≤◌, ◌<◌}
+use Rattle.std.specs.Prelude as prelude
+use Rattle.std.specs.Prelude.{Ok, Err}
 use mathlib.Core.Path.{◌≡◌, refl, ap, sym, ◌∙◌}
 use mathlib.Core.Bool.{Bool, true, false, cond}
 use mathlib.Core.List.{List, [], ◌∷◌, ◌++◌}
 use native.Mathlib.Omega.{arith}
-use lib.Dec.{leb, ltb, eqb}
+use lib.Dec.{ltb, eqb}
 use lib.ListN.{length, length-append}
 use borrow.Author.Tests.{ltb-true}
 use Rattle.table.specs.declared.Reading.{Reading}
 use Rattle.table.specs.declared.Reading.TheVariants as reading
 use Rattle.table.specs.declared.Operation.{Operation}
-use Rattle.table.specs.declared.Operation.TheVariants.{Add, Subtract, Multiply, Divide, Remainder, Less, Equal}
 use Rattle.table.specs.declared.Node.{Node}
 use Rattle.table.specs.declared.Node.TheVariants.{Constant, Local, Arithmetic, Choose, Let, Call, Both, Unknown}
 use Rattle.table.specs.Words.{functions, arity_at, nodes_at, start_of, body_at, tag_at, a_at, b_at, c_at}
@@ -28,9 +29,9 @@ use Rattle.schedule.specs.Runs.{outcome}
 use Rattle.schedule.proofs.Finish.{finishes}
 use Rattle.schedule.proofs.Stopping as stopping
 use Rattle.schedule.proofs.Stopping.{NextOk, ArrivalOk, Leading}
-use Rattle.arithmetic.specs.declared.Computed.{Computed}
-use Rattle.arithmetic.specs.declared.Computed.TheVariants.{Is, Fails}
-use Rattle.arithmetic.specs.Operate.{computed}
+use Rattle.arithmetic.specs.declared.Failure.{Failure}
+use Rattle.arithmetic.specs.declared.Failure.TheVariants.{TooLarge, BelowZero, DivisionByZero}
+use Rattle.arithmetic.specs.Operate.{computed, number_of}
 use Rattle.language.specs.declared.Stop.{Stop}
 use Rattle.language.specs.declared.Answer.{Answer}
 use Rattle.language.specs.declared.Answer.TheVariants.{Value, Stopped, Refused}
@@ -100,34 +101,15 @@ pub record Arithmetical (i : ℕ) : Type 0 where
   pub least : 22 ≤ i
   pub most : i ≤ 24
 
-is_fails : (i j : ℕ) → 22 ≤ j → j ≤ 24 → ◌≡◌ {A = Computed} (Fails j) (Fails i) → Arithmetical i
-is_fails i j a b e = let s : j ≡ i = cc in record { least = omega arith; most = omega arith }
+pub number_known : (e : Failure) → Arithmetical (number_of e)
+number_known TooLarge = record { least = omega arith; most = omega arith }
+number_known BelowZero = record { least = omega arith; most = omega arith }
+number_known DivisionByZero = record { least = omega arith; most = omega arith }
 
-not_fails : {A : Type 0} (v i : ℕ) → ◌≡◌ {A = Computed} (Is v) (Fails i) → A
-not_fails v i e = let no : ◌≡◌ {A = ℕ} 0 1 = cc in absurd (omega arith)
-
-fails_unless : (t : Bool) (v j i : ℕ) → 22 ≤ j → j ≤ 24 → cond t (Is v) (Fails j) ≡ Fails i → Arithmetical i
-fails_unless true v j i a b e = not_fails v i e
-fails_unless false v j i a b e = is_fails i j a b e
-
-fails_if : (t : Bool) (v j i : ℕ) → 22 ≤ j → j ≤ 24 → cond t (Fails j) (Is v) ≡ Fails i → Arithmetical i
-fails_if true v j i a b e = is_fails i j a b e
-fails_if false v j i a b e = not_fails v i e
-
-pub computed_fails : (o : Operation) (x y i : ℕ) → computed o x y ≡ Fails i → Arithmetical i
-unfolding computed
-computed_fails Add x y i e = fails_unless (ltb (x + y) (2 ^ 64)) (x + y) 22 i (omega arith) (omega arith) e
-computed_fails Subtract x y i e = fails_unless (leb y x) (x - y) 23 i (omega arith) (omega arith) e
-computed_fails Multiply x y i e = fails_unless (ltb (x * y) (2 ^ 64)) (x * y) 22 i (omega arith) (omega arith) e
-computed_fails Divide x y i e = fails_if (eqb y 0) (x / y) 24 i (omega arith) (omega arith) e
-computed_fails Remainder x y i e = fails_if (eqb y 0) (x % y) 24 i (omega arith) (omega arith) e
-computed_fails Less x y i e = not_fails _ i e
-computed_fails Equal x y i e = not_fails _ i e
-
-result_known : (w : List ℕ) (c : Code) → CodeOk w c → (r : Computed) → ((i : ℕ) → r ≡ Fails i → Arithmetical i) → Arrives w (place c) (result r)
+result_known : (w : List ℕ) (c : Code) → CodeOk w c → (r : prelude.Result ℕ Failure) → Arrives w (place c) (result r)
 unfolding result
-result_known w c s (Is v) h = tt
-result_known w c s (Fails i) h = let a = h i refl in record { tells = tells_at w i c (omega arith) (omega arith) s; other = λ e. omega arith }
+result_known w c s (Ok v) = tt
+result_known w c s (Err e) = let a = number_known e in record { tells = tells_at w (number_of e) c (omega arith) (omega arith) s; other = λ e. omega arith }
 
 module _ (w : List ℕ) (table : WellFormed w) where
   -- A function's body.
@@ -180,7 +162,7 @@ module _ (w : List ℕ) (table : WellFormed w) where
         → Arrives w (place c) (operated (node_at w (start_of w c.function) c.node) x v)
     unfolding operated
     operated_known t x v =
-        let a = operands t in rw a.1 (result_known w c t.stands (computed a.0 x v) (λ i e. computed_fails a.0 x v i e))
+        let a = operands t in rw a.1 (result_known w c t.stands (computed a.0 x v))
 
     chosen : (t : Tagged w c 3) (q : Bool)
         → Stands w c.function (cond q (c_at w (start_of w c.function) c.node) (b_at w (start_of w c.function) c.node))

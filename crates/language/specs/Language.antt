@@ -1,13 +1,12 @@
 -- The job language of document 01 as a frame machine, over the words of an accepted table (01, "Transitions").
-use Rattle.std.specs.Prelude.{ℕ, zero, suc, ◌+◌, cond, List, [], ◌∷◌, ◌++◌, length, get_or, ltb, eqb}
+use Rattle.std.specs.Prelude.{ℕ, zero, suc, ◌+◌, cond, List, [], ◌∷◌, ◌++◌, length, get_or, ltb, eqb, Result, Ok, Err}
 use Rattle.schedule.specs.FrameMachine.{Place, evaluate, return, Next, go_on, open_frame, open_fork, stuck, Arrival, close, keep, fail, FrameMachine}
 use Rattle.table.specs.declared.Node.{Node}
 use Rattle.table.specs.declared.Node.TheVariants.{Constant, Local, Arithmetic, Choose, Let, Call, Both, Unknown}
 use Rattle.table.specs.Words.{arity_at, start_of, a_at, b_at, c_at}
 use Rattle.table.specs.Nodes.{node_at}
-use Rattle.arithmetic.specs.declared.Computed.{Computed}
-use Rattle.arithmetic.specs.declared.Computed.TheVariants.{Is, Fails}
-use Rattle.arithmetic.specs.Operate.{computed}
+use Rattle.arithmetic.specs.declared.Failure.{Failure}
+use Rattle.arithmetic.specs.Operate.{computed, number_of}
 
 -- "A state evaluates a node with its locals": a node of a function, with the locals that are bound there, oldest first
 pub record Code : Type 0 where
@@ -46,9 +45,9 @@ abbrev pub first : Code → Code
 first c = at c (c.node + 1) c.locals
 
 -- what arithmetic gives, or 01's stops 22, 23 and 24; a frame of another node than an arithmetic is in no run of an accepted table
-unfoldable pub result : Computed → Arrival Code Frame
-result (Is r) = close (return r)
-result (Fails i) = fail i
+unfoldable pub result : Result ℕ Failure → Arrival Code Frame
+result (Ok r) = close (return r)
+result (Err e) = fail (number_of e)
 
 unfoldable pub operated : Node → ℕ → ℕ → Arrival Code Frame
 operated (Constant v) x y = fail 4

@@ -1,5 +1,6 @@
 -- What the functions on one frame tell.
 use Prim.Native.Nat.{ℕ, ◌+◌, ◌*◌, ◌<◌, ◌≤◌}
+use Rattle.std.specs.Prelude.{Result, Ok, Err, MatchResult, IsErrAnd}
 use mathlib.Core.Path.{◌≡◌, refl, sym, ap, ◌∙◌}
 use mathlib.Core.List.{List, [], ◌∷◌, ◌++◌, append_assoc}
 use mathlib.Core.Bool.{true, false}
@@ -10,13 +11,15 @@ use Rattle.table.specs.declared.Node.{Node}
 use Rattle.table.specs.declared.Node.TheVariants.{Arithmetic}
 use Rattle.table.specs.Words.{functions, start_of, tag_at, b_at, c_at}
 use Rattle.table.specs.Nodes.{node_at}
-use Rattle.arithmetic.specs.Operate.{computed}
+use Rattle.arithmetic.specs.declared.Failure.{Failure}
+use Rattle.arithmetic.specs.Operate.{computed, number_of}
 use Rattle.table.specs.WellFormed.{WellFormed}
 use Rattle.frames.specs.Frames.{locals_word, frame_function, frame_node, frame_count, frame_value, seat_at, frame_locals, loaded, appended}
 use Rattle.frames.proofs.Writes.{Loaded, is_loaded, is_appended}
 use Rattle.moves.specs.declared.Control.TheVariants.{Eval}
 use Rattle.frames.specs.declared.Seat.{Seat}
-use Rattle.moves.specs.Ready.{Stands, Sitting, locals_at, Child, Concluded, step_of, operation_of, operation}
+use Rattle.moves.specs.declared.Stopped.{Stopped}
+use Rattle.moves.specs.Ready.{Stands, Sitting, locals_at, Child, Concluded, stopped_at, placed_result, operation_of, operation}
 use Rattle.moves.proofs.Nodes.{inside, operation_in}
 
 -- the seat of a frame that was read, and where its function's body starts
@@ -39,7 +42,7 @@ module _ {w : List ℕ} (ws : List ℕ) (b : ℕ) (table : WellFormed w) (s : St
       pub arithmetic_node : (o : Operation) × (x ≡ Arithmetic o (b_at w (start_of w (frame_function ws b)) (frame_node ws b)))
       arithmetic_node = let a = operation_in w table s t in (a.0, sym node_is ∙ a.1)
 
-      pub operation_is : (v : ℕ) {o : Operation} {d : ℕ} → x ≡ Arithmetic o d → {y : ℕ} → y ≡ frame_value ws b → operation w ws b v ≡ step_of r.function r.node (computed o y v)
+      pub operation_is : (v : ℕ) {o : Operation} {d : ℕ} → x ≡ Arithmetic o d → {y : ℕ} → y ≡ frame_value ws b → operation w ws b v ≡ placed_result r.function r.node (computed o y v)
       unfolding operation_of
       operation_is v e is_y = rw (node_is ∙ e, is, is_y)
 
@@ -78,3 +81,11 @@ module _ (w ws ls : List ℕ) (b : ℕ) (s : Sitting w ws ls b) where
       let a' = is_appended ls₂ ls' (count + 1) y (omega arith) a.sixteen e in
       let two : count + 1 + 1 ≡ count + 2 = omega arith in
       (a'.sixteen, ap (λ (n : ℕ). take n ls') (sym two) ∙ a'.are ∙ rw (a.are, append_assoc, l.are))
+
+-- a failure of an operation ends the run at its place
+pub placed_failure : (f p : ℕ) (c : Result ℕ Failure) (P : Failure → Stopped → Type 0) → ((e : Failure) (h : Stopped) → P e h → h ≡ stopped_at (number_of e) f p) → (r : Result ℕ Stopped)
+    → MatchResult c (λ x. r ≡ Ok x) (λ e. IsErrAnd r (P e)) → r ≡ placed_result f p c
+unfolding placed_result
+placed_failure f p (Ok x) P told r u = u
+placed_failure f p (Err e) P told (Ok x) u = absurd u
+placed_failure f p (Err e) P told (Err h) u = ap Err (told e h u)

@@ -1,5 +1,7 @@
 -- What a value that returns to a frame tells: the flat machine's move of the state that the words held is the state that they hold.
 use Prim.Native.Nat.{ℕ, zero, suc, ◌+◌, ◌*◌, ◌/◌, ◌<◌, ◌≤◌, ◌^◌, max}
+use Rattle.std.specs.Prelude as prelude
+use Rattle.std.specs.Prelude.{Ok, Err}
 use mathlib.Core.Path.{◌≡◌, refl, sym, ap, ◌∙◌}
 use mathlib.Core.Bool.{Bool, true, false, cond}
 use mathlib.Core.List.{List, [], ◌∷◌, ◌++◌}
@@ -19,19 +21,19 @@ use Rattle.frames.specs.Frames.{seat_at, locals_word, arguments_word, frame_kind
 use Rattle.frames.proofs.Writes.{Turned, Loaded, is_turned, is_collected, is_loaded, is_appended}
 use Rattle.table.specs.declared.Operation.{Operation}
 use Rattle.table.specs.declared.Node.TheVariants.{Arithmetic}
-use Rattle.arithmetic.specs.declared.Computed.{Computed}
-use Rattle.arithmetic.specs.declared.Computed.TheVariants.{Is, Fails}
-use Rattle.arithmetic.specs.Operate.{computed}
+use Rattle.arithmetic.specs.declared.Failure.{Failure}
+use Rattle.arithmetic.specs.Operate.{computed, number_of}
 use Rattle.language.specs.Language.{Code, Frame, left_operand, right_operand, condition, binding, argument, place, frame_place, at, entered, second, third, called, arrive, gathered, result, operated, language}
 use Rattle.moves.specs.declared.Control.{Control}
 use Rattle.moves.specs.declared.Control.TheVariants.{Eval, Ret}
 use Rattle.moves.specs.declared.Registers.{Registers}
 use Rattle.moves.specs.declared.Plan.{Plan}
 use Rattle.frames.specs.declared.Seat.{Seat}
+use Rattle.moves.specs.declared.Stopped.{Stopped}
 use Rattle.moves.specs.declared.Step.{Step}
-use Rattle.moves.specs.declared.Step.TheVariants.{Go, Value}
+use Rattle.moves.specs.declared.Step.TheVariants.{Go, Value, Halt}
 use Rattle.moves.specs.Layout.{code_at, slots, slot_of, slot_at, stack_of, control_of, run_counts_of, state_of, result_of, ticked, restarted, oldest_without, halted}
-use Rattle.moves.specs.Ready.{Stands, tag_of, Fitting, FittingAt, Held, Controlled, Oldest, Kept, Ready, Paid, KeptBy, Stepped, Returns, Sitting, Child, Concluded, Operand, called_at, step_of, operation_of, operation, Resumed, resumes, stays}
+use Rattle.moves.specs.Ready.{Stands, tag_of, Fitting, FittingAt, Held, Controlled, Oldest, Kept, Ready, Paid, KeptBy, Stepped, Returns, Sitting, Child, Concluded, Operand, called_at, stopped_at, placed_result, operation_of, operation, Resumed, resumes, stays}
 use Rattle.moves.proofs.Nodes.{arithmetic_in, operation_in, choose_in, let_in, both_in, called_in, argument_later, enter}
 use Rattle.moves.proofs.Frames.{frame_locals_lem, body_locals}
 use Rattle.moves.proofs.Stacks.{stack_more, held_more, held_top, same_slots, few_arguments}
@@ -183,11 +185,16 @@ high_kinds n h n3 n4 n5 l = omega arith
 pub last_kind : (n : ℕ) → (n ≡ 0 → ⊥) → (n ≡ 1 → ⊥) → (n ≡ 2 → ⊥) → (n ≡ 3 → ⊥) → (n ≡ 4 → ⊥) → (n ≡ 5 → ⊥) → n < 7 → n ≡ 6
 last_kind n n0 n1 n2 n3 n4 n5 l = high_kinds n (low_kinds n n0 n1 n2) n3 n4 n5 l
 
--- an operation that gave a value
-value_only : (f p z : ℕ) (c : Computed) → Value z ≡ step_of f p c → result c ≡ close (return z)
-unfolding step_of result
-value_only f p z (Is a) e = let i : a ≡ z = cc in rw i
-value_only f p z (Fails i) e = let a : ◌≡◌ {A = ℕ} 0 1 = cc in absurd (omega arith)
+-- an operation that gave a value, and one that failed
+value_only : (f p z : ℕ) (c : prelude.Result ℕ Failure) → Ok z ≡ placed_result f p c → result c ≡ close (return z)
+unfolding placed_result result
+value_only f p z (Ok a) e = let i : a ≡ z = cc in rw i
+value_only f p z (Err d) e = let a : ◌≡◌ {A = ℕ} 0 1 = cc in absurd (omega arith)
+
+failure_only : (f p : ℕ) (h : Stopped) (c : prelude.Result ℕ Failure) → Err h ≡ placed_result f p c → (h ≡ stopped_at h.number f p) × (result c ≡ fail h.number)
+unfolding placed_result result
+failure_only f p h (Ok a) e = let no : ◌≡◌ {A = ℕ} 0 1 = cc in absurd (omega arith)
+failure_only f p h (Err d) e = let i : h ≡ stopped_at (number_of d) f p = cc in rw i (refl, refl)
 
 -- one of two children
 either : (w : List ℕ) (f k x y : ℕ) (b : Bool) → Stands w f x k → Stands w f y k → Stands w f (cond b x y) k
@@ -410,30 +417,28 @@ module _ (w ws ls : List ℕ) (plan : Plan) (s : Registers) (v t : ℕ) (q : Ret
   unfolding arrive operated
   arrives = rw the_operation.1
 
-  steps : operation w ws (32 * t) v ≡ step_of (frame_function ws (32 * t)) (frame_node ws (32 * t)) (computed the_operation.0 x v)
+  steps : operation w ws (32 * t) v ≡ placed_result (frame_function ws (32 * t)) (frame_node ws (32 * t)) (computed the_operation.0 x v)
   unfolding operation_of
   steps = rw the_operation.1
 
   pub operand : Operand w ws (32 * t)
   operand = record { table = q.ready.kept.table; room = room w ws ls plan s v t 1 q; stands = (top w ws ls plan s v t 1 q).stands; tag = tag_here w ws ls plan s v t 1 q }
 
-  pub stepped_result : Paid plan s → (z : ℕ) → Value z ≡ operation w ws (32 * t) v → (n : Registers) → n ≡ ticked s (Ret z) t s.oldest → Stepped w ws ls plan s ws ls (Go n)
+  pub stepped_result : Paid plan s → (z : ℕ) → Ok z ≡ operation w ws (32 * t) v → (n : Registers) → n ≡ ticked s (Ret z) t s.oldest → Stepped w ws ls plan s ws ls (Go n)
   unfolding slot_of control_of Controlled
   stepped_result paid z e n u =
       closed w ws ls plan s v t 1 q ls (Ret z) (return z) refl q.ready.kept.sixteen tt (λ y. omega arith)
       (closes w ws ls plan s v t 1 q paid frame (return z) (arrives ∙ value_only _ _ z (computed the_operation.0 x v) (e ∙ steps))) n u
 
-  pub stepped_failure : Paid plan s → (o : Step) → o ≡ operation w ws (32 * t) v → ((z : ℕ) → o ≡ Value z → ⊥) → Stepped w ws ls plan s ws ls o
-  unfolding slot_of result_of KeptBy step_of result
-  stepped_failure paid o e not = by (computed the_operation.0 x v) (e ∙ steps) arrives
-    where
-      by : (c : Computed) → o ≡ step_of (frame_function ws (32 * t)) (frame_node ws (32 * t)) c → arrive w frame v ≡ result c → Stepped w ws ls plan s ws ls o
-      by (Is z) e a = absurd (not z e)
-      by (Fails i) e a = rw e (record { same = returned w ws ls plan s v t 1 q ∙ fails w ws ls plan s v t 1 q paid frame i a; kept = tt; spared = spared_same ws })
+  pub stepped_failure : Paid plan s → (h : Stopped) → Err h ≡ operation w ws (32 * t) v → Stepped w ws ls plan s ws ls (Halt h)
+  unfolding slot_of result_of KeptBy
+  stepped_failure paid h e =
+      let o = failure_only _ _ h (computed the_operation.0 x v) (e ∙ steps) in
+      rw o.0 (record { same = returned w ws ls plan s v t 1 q ∙ fails w ws ls plan s v t 1 q paid frame h.number (arrives ∙ o.1); kept = tt; spared = spared_same ws })
 
-  pub stepped_resumed : Paid plan s → (o : Step) → o ≡ operation w ws (32 * t) v → (r : Step) → Resumed s t o r → Stepped w ws ls plan s ws ls r
+  pub stepped_resumed : Paid plan s → (o : prelude.Result ℕ Stopped) → o ≡ operation w ws (32 * t) v → (r : Step) → Resumed s t o r → Stepped w ws ls plan s ws ls r
   stepped_resumed paid o e r (resumes z i u) = rw u (stepped_result paid z (sym i ∙ e) _ refl)
-  stepped_resumed paid o e r (stays not u) = rw u (stepped_failure paid o e not)
+  stepped_resumed paid o e r (stays h i u) = rw u (stepped_failure paid h (sym i ∙ e))
 
 -- NO FUEL: a frame that is not promoted is not reached
 module _ (w ws ls : List ℕ) (plan : Plan) (s : Registers) (v t kind : ℕ) (q : Returns w ws ls plan s v t kind) (dry : plan.fuel.0 ≤ s.transitions) where

@@ -1,5 +1,5 @@
 -- What a run keeps true of its words and registers, and what each function tells of them.
-use Rattle.std.specs.Prelude.{ℕ, zero, suc, ◌+◌, ◌*◌, ◌/◌, ◌≤◌, ◌<◌, ◌^◌, ◌≡◌, Bool, true, false, cond, List, [], ◌∷◌, length, get_or, ltb}
+use Rattle.std.specs.Prelude.{ℕ, zero, suc, ◌+◌, ◌*◌, ◌/◌, ◌≤◌, ◌<◌, ◌^◌, ◌≡◌, Bool, true, false, cond, List, [], ◌∷◌, length, get_or, ltb, Result, Ok, Err}
 use Rattle.schedule.specs.Algebra.{spans}
 use Rattle.schedule.specs.Machine.{move}
 use Rattle.schedule.specs.Bounds.{Bounded, step_by}
@@ -8,15 +8,15 @@ use Rattle.table.specs.WellFormed.{Subtree, WellFormed}
 use Rattle.table.specs.Nodes.{node_at}
 use Rattle.table.specs.declared.Node.{Node}
 use Rattle.table.specs.declared.Node.TheVariants.{Constant, Local, Arithmetic, Choose, Let, Call, Both, Unknown}
-use Rattle.arithmetic.specs.declared.Computed.{Computed}
-use Rattle.arithmetic.specs.declared.Computed.TheVariants.{Is, Fails}
-use Rattle.arithmetic.specs.Operate.{computed}
+use Rattle.arithmetic.specs.declared.Failure.{Failure}
+use Rattle.arithmetic.specs.Operate.{computed, number_of}
 use Rattle.frames.specs.Frames.{locals_word, frame_kind, frame_function, frame_node, frame_count, frame_value, frame_place_at, frame_right, pushed, marked, loaded, appended}
 use Rattle.moves.specs.declared.Control.{Control}
 use Rattle.moves.specs.declared.Control.TheVariants.{Eval, Ret}
 use Rattle.moves.specs.declared.Registers.{Registers}
 use Rattle.moves.specs.declared.Plan.{Plan}
 use Rattle.frames.specs.declared.Seat.{Seat}
+use Rattle.moves.specs.declared.Stopped.{Stopped}
 use Rattle.moves.specs.declared.Step.{Step}
 use Rattle.moves.specs.declared.Step.TheVariants.{Go, Value, Halt}
 use Rattle.language.specs.Language.{language}
@@ -207,24 +207,29 @@ pub record Operand (w ws : List ℕ) (b : ℕ) : Type 0 where
   pub stands : Stands w (frame_function ws b) (frame_node ws b) (frame_count ws b)
   pub tag : tag_at w (start_of w (frame_function ws b)) (frame_node ws b) ≡ 2
 
-unfoldable pub step_of : ℕ → ℕ → Computed → Step
-step_of f p (Is r) = Value r
-step_of f p (Fails i) = halted i f p
+-- a stop by its number, function and node
+abbrev pub stopped_at : ℕ → ℕ → ℕ → Stopped
+stopped_at i f p = record { number = i; function = f; node = p }
 
-unfoldable pub operation_of : ℕ → ℕ → ℕ → ℕ → Node → Step
-operation_of f p x y (Constant v) = halted 4 f p
-operation_of f p x y (Local slot) = halted 4 f p
-operation_of f p x y (Arithmetic o b) = step_of f p (computed o x y)
-operation_of f p x y (Choose b c) = halted 4 f p
-operation_of f p x y (Let b) = halted 4 f p
-operation_of f p x y (Call g b c) = halted 4 f p
-operation_of f p x y (Both b c) = halted 4 f p
-operation_of f p x y Unknown = halted 4 f p
+-- what an operation gives, its stop with function and node
+unfoldable pub placed_result : ℕ → ℕ → Result ℕ Failure → Result ℕ Stopped
+placed_result f p (Ok r) = Ok r
+placed_result f p (Err e) = Err (stopped_at (number_of e) f p)
 
-abbrev pub operation : List ℕ → List ℕ → ℕ → ℕ → Step
+unfoldable pub operation_of : ℕ → ℕ → ℕ → ℕ → Node → Result ℕ Stopped
+operation_of f p x y (Constant v) = Err (stopped_at 4 f p)
+operation_of f p x y (Local slot) = Err (stopped_at 4 f p)
+operation_of f p x y (Arithmetic o b) = placed_result f p (computed o x y)
+operation_of f p x y (Choose b c) = Err (stopped_at 4 f p)
+operation_of f p x y (Let b) = Err (stopped_at 4 f p)
+operation_of f p x y (Call g b c) = Err (stopped_at 4 f p)
+operation_of f p x y (Both b c) = Err (stopped_at 4 f p)
+operation_of f p x y Unknown = Err (stopped_at 4 f p)
+
+abbrev pub operation : List ℕ → List ℕ → ℕ → ℕ → Result ℕ Stopped
 operation w ws b v = operation_of (frame_function ws b) (frame_node ws b) (frame_value ws b) v (node_at w (start_of w (frame_function ws b)) (frame_node ws b))
 
--- after an operation: its result is returned by a transition, or its stop is left as it is
-pub data Resumed (s : Registers) (top : ℕ) (computed r : Step) : Type 0 where
-  resumes : (v : ℕ) → computed ≡ Value v → r ≡ Go (ticked s (Ret v) top s.oldest) → Resumed s top computed r
-  stays : ((v : ℕ) → computed ≡ Value v → ⊥) → r ≡ computed → Resumed s top computed r
+-- after an operation: its result is returned by a transition, or its stop ends the run
+pub data Resumed (s : Registers) (top : ℕ) (computed : Result ℕ Stopped) (r : Step) : Type 0 where
+  resumes : (v : ℕ) → computed ≡ Ok v → r ≡ Go (ticked s (Ret v) top s.oldest) → Resumed s top computed r
+  stays : (h : Stopped) → computed ≡ Err h → r ≡ Halt h → Resumed s top computed r

@@ -10,7 +10,6 @@ ghost use Rattle.moves.specs.Ready.{Returns, Paid, Stepped, Ticks, Restarts, Fra
 
 mod job;
 
-use arithmetic::Computed;
 use frames::Seat;
 pub use job::Job;
 use schedule::{Credits, Fuel, Span};
@@ -79,7 +78,7 @@ pub struct Stopped {
     pub node: usize,
 }
 
-// What a move, or an operation, comes to.
+// What a move comes to.
 #[derive(Clone, Copy)]
 pub enum Step {
     Go(Registers),
@@ -272,32 +271,35 @@ pub fn ret_left_operand(
 }
 
 // What the operation of the arithmetic frame at b gives on its left operand and v.
-fn operated(job: Job, ws: &[u64], b: usize, v: u64) -> Step
+fn operated(job: Job, ws: &[u64], b: usize, v: u64) -> Result<u64, Stopped>
     requires { Operand job.words.now ws.now b }
     ensures { result ≡ operation job.entry.words.now ws.now b v }
 {
     let seat = frames::seat_of(ws, b);
-    let function = seat.function;
-    let p = seat.node;
-    let node = table::node_at(job.words, job.start(function), p);
-    let Node::Arithmetic(operation, _) = node else {
-        return halt(4, function, p);
+    let Seat { function, node, .. } = seat;
+    let Node::Arithmetic(operation, _) = table::node_at(job.words, job.start(function), node) else {
+        return Err(Stopped {
+            number: 4,
+            function,
+            node,
+        });
     };
-    match arithmetic::operate(operation, frames::value_of(ws, b), v) {
-        Computed::Is(r) => Step::Value(r),
-        Computed::Fails(number) => halt(number, function, p),
-    }
+    arithmetic::operate(operation, frames::value_of(ws, b), v).map_err(|failure| Stopped {
+        number: u32::from(failure),
+        function,
+        node,
+    })
 }
 
 // After an operation: the result is returned, or the stop ends the run.
-fn resumed(s: Registers, top: usize, computed: Step) -> Step
+fn resumed(s: Registers, top: usize, computed: Result<u64, Stopped>) -> Step
     requires { (s.credits.0 < 2 ^ 60) × (s.span.0 < 2 ^ 60) × (s.transitions < 2 ^ 60) }
     ensures { Resumed s top computed result }
 {
-    let Step::Value(r) = computed else {
-        return computed;
-    };
-    Step::Go(tick(s, Control::Ret(r), top, s.oldest))
+    match computed {
+        Ok(r) => Step::Go(tick(s, Control::Ret(r), top, s.oldest)),
+        Err(stop) => Step::Halt(stop),
+    }
 }
 
 // A right operand: the operation is made.

@@ -1,5 +1,6 @@
 -- What a node of the job language leads to, where its children have values by ordinary frames alone.
 use Prim.Native.Nat.{ℕ, ◌+◌, max}
+use Rattle.std.specs.Prelude.{Ok}
 use mathlib.Core.Path.{◌≡◌, refl}
 use mathlib.Core.Bool.{cond}
 use mathlib.Core.List.{List, [], ◌∷◌, ◌++◌}
@@ -13,7 +14,6 @@ use Rattle.table.specs.declared.Node.{Node}
 use Rattle.table.specs.declared.Node.TheVariants.{Constant, Local, Arithmetic}
 use Rattle.table.specs.Words.{arity_at, start_of, tag_at}
 use Rattle.table.specs.Nodes.{node_of, node_at}
-use Rattle.arithmetic.specs.declared.Computed.TheVariants.{Is}
 use Rattle.arithmetic.specs.Operate.{computed}
 use Rattle.language.specs.Language.{Code, left_operand, right_operand, condition, binding, argument, at, first, entered, second, third, called, next, call, arrive, gathered, result, operated, language}
 
@@ -34,14 +34,14 @@ module _ (w : List ℕ) (f p : ℕ) (ls : List ℕ) where
 
   -- a left operand x arrives: the right one has the value y
   pub right_through : (o : Operation) (b x y v j c : ℕ) → node ≡ Arithmetic o b → Leads (language w) (at code (second w code) ls) (return y) j c
-      → computed o x y ≡ Is v → Through (language w) (left_operand code) x (return v) (j + 2) c
+      → computed o x y ≡ Ok v → Through (language w) (left_operand code) x (return v) (j + 2) c
   unfolding arrive operated result
   right_through o b x y v j c e u q =
       let r : arrive w (right_operand code x) y ≡ close (return v) = rw (e, q) in
       keeps {k = j + 2} {h = c} (right_operand code x) (at code (second w code) ls) y j 1 c 0 refl u (closes r refl refl) (omega arith) (omega arith)
 
   pub arithmetic_leads : (o : Operation) (b x y v i j a c : ℕ) → node ≡ Arithmetic o b → Leads (language w) (first code) (return x) i a
-      → Leads (language w) (at code (second w code) ls) (return y) j c → computed o x y ≡ Is v → Leads (language w) code (return v) (i + j + 3) (max a c + 1)
+      → Leads (language w) (at code (second w code) ls) (return y) j c → computed o x y ≡ Ok v → Leads (language w) code (return v) (i + j + 3) (max a c + 1)
   unfolding next
   arithmetic_leads o b x y v i j a c e t u q =
       let n : next w code node ≡ open_frame (left_operand code) (first code) = rw e in

@@ -1,25 +1,24 @@
 -- Simple operands: their words are there, and they have their values by so many transitions.
 use Prim.Native.Nat.{ℕ, zero, suc, ◌+◌, ◌*◌, ◌≤◌, ◌<◌}
+use Rattle.std.specs.Prelude.{Ok}
 use mathlib.Core.Path.{◌≡◌, ap, ◌∙◌}
 use mathlib.Core.Bool.{Bool, true, false, cond}
-use mathlib.Core.List.{List, [], ◌∷◌}
+use mathlib.Core.List.{List}
 use native.Mathlib.Omega.{arith}
 use native.Mathlib.Decide.{dec_lt, ℕ_discrete}
-use lib.ListN.{length, get_or, take, drop, get_or-eq_default}
+use lib.ListN.{length, get_or, take, drop}
 use lib.Seq.{get_or-take, get_or-drop}
 use lib.Dec.{ltb, eqb}
 use borrow.Author.Tests.{lt-ltb, le-ltb, eq-eqb, ne_eqb}
 use Rattle.schedule.specs.FrameMachine.{return}
 use Rattle.schedule.specs.Stretch.{Leads}
 use Rattle.table.specs.declared.Operation.{Operation}
-use Rattle.table.specs.declared.Operation.TheVariants.{Add, Subtract, Multiply, Divide, Remainder, Less, Equal}
 use Rattle.table.specs.declared.Node.TheVariants.{Constant, Local, Arithmetic}
 use Rattle.table.specs.Words.{start_of, body_at, tag_at, a_at, b_at}
 use Rattle.table.specs.Nodes.{arithmetic_of, node_of, node_at}
 use Rattle.table.specs.WellFormed.{WellFormed, Subtree, Assured, constant, local}
 use Rattle.table.proofs.Trees.{moves}
 use Rattle.table.proofs.Views.{assured, at_arithmetic, tag_for}
-use Rattle.arithmetic.specs.declared.Computed.TheVariants.{Is}
 use Rattle.arithmetic.specs.Operate.{computed}
 use Rattle.language.specs.Language.{Code, language}
 use Rattle.moves.specs.Ready.{Stands}
@@ -83,16 +82,6 @@ numbered_is (suc (suc (suc (suc (suc (suc (suc n))))))) b c o e = let x : ◌≡
 pub two_node : (w : List ℕ) (f p : ℕ) (o : Operation) (b : ℕ) → tag_at w (start_of w f) p ≡ 2 → node_at w (start_of w f) p ≡ Arithmetic o b → numbered (a_at w (start_of w f) p) ≡ o
 unfolding node_of
 two_node w f p o b t e = numbered_is (a_at w (start_of w f) p) (b_at w (start_of w f) p) b o (rw t at e)
-
-above_2 : (n : ℕ) → (n ≡ 0 → ⊥) → (n ≡ 1 → ⊥) → (n ≡ 2 → ⊥) → 3 ≤ n
-above_2 n n0 n1 n2 = omega arith
-
-above_5 : (n : ℕ) → 3 ≤ n → (n ≡ 3 → ⊥) → (n ≡ 4 → ⊥) → (n ≡ 5 → ⊥) → 6 ≤ n
-above_5 n h n3 n4 n5 = omega arith
-
-pub last_operation : (n : ℕ) → (n ≡ 0 → ⊥) → (n ≡ 1 → ⊥) → (n ≡ 2 → ⊥) → (n ≡ 3 → ⊥) → (n ≡ 4 → ⊥) → (n ≡ 5 → ⊥) → numbered n ≡ Equal
-last_operation n n0 n1 n2 n3 n4 n5 =
-    get_or-eq_default (Add ∷ Subtract ∷ Multiply ∷ Divide ∷ Remainder ∷ Less ∷ []) Equal (above_5 n (above_2 n n0 n1 n2) n3 n4 n5)
 
 -- A LEAF by its node
 module _ (w : List ℕ) (f p : ℕ) where
@@ -196,20 +185,20 @@ module _ (w : List ℕ) (f : ℕ) (table : WellFormed w) (vs : List ℕ) (from :
         right = λ g. leaf_fits w f table vs from (right_in t a) (at + 8) right_at_lem b l;
       }
 
-  pub simple_leads : from + k ≤ length vs → 0 < cost_at w at → (v : ℕ) → simple_at w at vs from ≡ Is v
+  pub simple_leads : from + k ≤ length vs → 0 < cost_at w at → (v : ℕ) → simple_at w at vs from ≡ Ok v
       → Leads (language w) (operand f p k vs from) (return v) (cost_at w at) (frames_of (cost_at w at))
   simple_leads l some v q = on (simply (get_or w at 0) (get_or w (at + 4) 0) (get_or w (at + 8) 0) some)
     where
       on : Simply (get_or w at 0) (get_or w (at + 4) 0) (get_or w (at + 8) 0)
           → Leads (language w) (operand f p k vs from) (return v) (cost_at w at) (frames_of (cost_at w at))
       on (leafy h u) =
-          let x : Is (leaf_at w at vs from) ≡ Is v = rw (lt-ltb _ _ h) at q in
+          let x : Ok (leaf_at w at vs from) ≡ Ok v = rw (lt-ltb _ _ h) at q in
           let y : leaf_at w at vs from ≡ v = cc in
           rw (u, ← y) (leaf_leads w f table vs from s at e h)
       on (paired t a b u) =
           let o = at_arithmetic w (body_at w f) s.tree (two_tag t) in
           let n : numbered (get_or w (at + 1) 0) ≡ o.0 = rw (← a_is w f table vs from s at e) (two_node w f p o.0 (b_at w (start_of w f) p) (two_tag t) o.1) in
-          let x : computed (numbered (get_or w (at + 1) 0)) (leaf_at w (at + 4) vs from) (leaf_at w (at + 8) vs from) ≡ Is v = rw (le-ltb (get_or w at 0) 2 (omega arith)) at q in
+          let x : computed (numbered (get_or w (at + 1) 0)) (leaf_at w (at + 4) vs from) (leaf_at w (at + 8) vs from) ≡ Ok v = rw (le-ltb (get_or w at 0) 2 (omega arith)) at q in
           rw u (arithmetic_leads w f p (take k (drop from vs)) o.0 (b_at w (start_of w f) p) _ _ v 1 1 0 0 o.1
           (leaf_leads w f table vs from (left_in t) (at + 4) left_at a)
           (rw (pair_ends t a) (leaf_leads w f table vs from (right_in t a) (at + 8) right_at_lem b))

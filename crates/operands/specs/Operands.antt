@@ -1,10 +1,9 @@
 -- Simple operands, by their words: a constant, a local, or an arithmetic of two of these. Its node stands at the word `at`; the values of the
 -- locals stand from word `from` of `vs` on.
-use Rattle.std.specs.Prelude.{ℕ, ◌+◌, ◌*◌, ◌≤◌, ◌<◌, ◌≡◌, cond, List, [], ◌∷◌, length, get_or, ltb, eqb}
+use Rattle.std.specs.Prelude.{ℕ, ◌+◌, ◌*◌, ◌≤◌, ◌<◌, ◌≡◌, cond, List, [], ◌∷◌, length, get_or, ltb, eqb, Result, Ok}
 use Rattle.table.specs.declared.Operation.{Operation}
 use Rattle.table.specs.declared.Operation.TheVariants.{Add, Subtract, Multiply, Divide, Remainder, Less, Equal}
-use Rattle.arithmetic.specs.declared.Computed.{Computed}
-use Rattle.arithmetic.specs.declared.Computed.TheVariants.{Is}
+use Rattle.arithmetic.specs.declared.Failure.{Failure}
 use Rattle.arithmetic.specs.Operate.{computed}
 
 -- the operation of a number
@@ -31,8 +30,8 @@ abbrev pub both_of : ℕ → ℕ → ℕ
 both_of k l = cond (eqb k 0) 0 (cond (eqb l 0) 0 (k + l))
 
 -- its value
-abbrev pub simple_at : List ℕ → ℕ → List ℕ → ℕ → Computed
-simple_at w at vs from = cond (ltb (get_or w at 0) 2) (Is (leaf_at w at vs from)) (computed (numbered (get_or w (at + 1) 0)) (leaf_at w (at + 4) vs from) (leaf_at w (at + 8) vs from))
+abbrev pub simple_at : List ℕ → ℕ → List ℕ → ℕ → Result ℕ Failure
+simple_at w at vs from = cond (ltb (get_or w at 0) 2) (Ok (leaf_at w at vs from)) (computed (numbered (get_or w (at + 1) 0)) (leaf_at w (at + 4) vs from) (leaf_at w (at + 8) vs from))
 
 -- these words are there
 pub record LeafAt (w : List ℕ) (at : ℕ) (vs : List ℕ) (from : ℕ) : Type 0 where

@@ -9,4 +9,4 @@ operated-computed-requires c =
 
 pub returns : goal.returns
 returns c =
-    (stepped_resumed _ _ _ _ _ _ _ c.requires.0 c.requires.1 _ c.operated-computed.ensures _ c.resumed.ensures, ticks_resumed c.args.job.words.now c.args.ws.now _ c.args.v c.args.s c.args.top _ c.operated-computed.ensures _ c.resumed.ensures)
+    (stepped_resumed _ _ _ _ _ _ _ c.requires.0 c.requires.1 _ c.operated-computed.ensures _ c.resumed.ensures, ticks_resumed c.args.s c.args.top _ _ c.resumed.ensures)
