@@ -229,21 +229,14 @@ fn child(job: Job, ws: &[u64], locals: &mut [u64], b: usize, last: bool) -> Seat
     ensures { Child job.entry.words.now ws.now locals.old b last locals.new result }
 {
     let seat = frames::seat_of(ws, b);
-    let function = seat.function;
-    let p = seat.node;
-    let count = seat.count;
-    frames::load_locals(locals, ws, b, count);
-    let start = job.start(function);
+    frames::load_locals(locals, ws, b, seat.count);
+    let start = job.start(seat.function);
     let node = if last {
-        table::third(job.words, start, p)
+        table::third(job.words, start, seat.node)
     } else {
-        table::second(job.words, start, p)
+        table::second(job.words, start, seat.node)
     };
-    Seat {
-        function,
-        node,
-        count,
-    }
+    Seat { node, ..seat }
 }
 
 // A left operand: the right one is evaluated.
@@ -426,9 +419,8 @@ pub fn ret_argument(
 {
     let b = frames::WORDS * top;
     let seat = frames::seat_of(ws, b);
-    let function = seat.function;
     let n = frames::value_of(ws, b) as usize;
-    let g = table::called(job.words, job.start(function), seat.node);
+    let g = table::called(job.words, job.start(seat.function), seat.node);
     if n + 1 < table::arity(job.words, g) {
         next_argument(job, ws, locals, plan, s, v, top, n)
     } else {
