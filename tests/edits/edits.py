@@ -397,15 +397,15 @@ def independent(crate, some):
 # ---- what the prover said
 
 def proved_in(file):
-    """The functions that a file of proofs/ is the proof of: one, or those of a cycle of calls."""
+    """The functions that a file of proofs/ is the proof of: one, or those of a cycle of calls; by their names in their module."""
     parts = file.split("/")
     if parts[0] != "proofs" or len(parts) < 3 or parts[-1] not in ("Answers.antt", "Invariants.antt"):
         return []
-    return ["::".join(parts[1:-2] + [name]) for name in parts[-2].split("+") if name]
+    return ["::".join([p for p in parts[1:-2] if p[0].isupper()] + [name]) for name in parts[-2].split("+") if name]
 
 
 ERROR = re.compile(r"^(?:\./)?((?:src|specs|proofs)/\S+?):\d+:\d+: error: (?:`([^`]*)`: )?(.*)")
-SEARCHED = re.compile(r"^fn (\w+)::(\S+): no proof: .*`search` did not prove")
+SEARCHED = re.compile(r"^fn (\w+)::(?:[a-z]\w*::)*(\S+): no proof: .*`search` did not prove")
 UNFIT = re.compile(r"is not in scope|has no field|has no `")
 # what is no proof that fails, but a text that is none
 UNREAD = re.compile(r"is no name|operand is missing|expected the end|cannot continue")

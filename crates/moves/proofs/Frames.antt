@@ -5,15 +5,14 @@ use mathlib.Core.Path.{◌≡◌, refl, sym, ap, ◌∙◌}
 use mathlib.Core.List.{List, [], ◌∷◌, ◌++◌, append_assoc}
 use mathlib.Core.Bool.{true, false}
 use native.Mathlib.Omega.{arith}
-use lib.ListN.{length, get_or, take}
+use lib.ListN.{length, take}
 use Rattle.table.specs.declared.Operation.{Operation}
 use Rattle.table.specs.declared.Node.{Node}
 use Rattle.table.specs.declared.Node.TheVariants.{Arithmetic}
-use Rattle.table.specs.Words.{start_of, tag_at, b_at, c_at}
+use Rattle.table.specs.Words.{functions, start_of, tag_at, b_at, c_at}
 use Rattle.table.specs.Nodes.{node_at}
 use Rattle.arithmetic.specs.declared.Failure.{Failure}
 use Rattle.arithmetic.specs.Operate.{computed, number_of}
-use Rattle.table.specs.Read.{starts_of}
 use Rattle.table.specs.WellFormed.{WellFormed}
 use Rattle.frames.specs.Frames.{locals_word, frame_function, frame_node, frame_count, frame_value, seat_at, frame_locals, loaded, appended}
 use Rattle.frames.proofs.Writes.{Loaded, is_loaded, is_appended}
@@ -21,38 +20,38 @@ use Rattle.moves.specs.declared.Control.TheVariants.{Eval}
 use Rattle.frames.specs.declared.Seat.{Seat}
 use Rattle.moves.specs.declared.Stopped.{Stopped}
 use Rattle.moves.specs.Ready.{Stands, Sitting, locals_at, Child, Concluded, stopped_at, placed_result, operation_of, operation}
-use Rattle.moves.proofs.Nodes.{start_inside, start_is, inside, operation_in}
+use Rattle.moves.proofs.Nodes.{inside, operation_in}
 
--- the seat of a frame that was read, with its node through the array of starts
-module _ (w ws starts : List ℕ) (b : ℕ) (table : WellFormed w) (s : Stands w (frame_function ws b) (frame_node ws b) (frame_count ws b)) (e : starts ≡ starts_of w)
-    (r : Seat) (is : r ≡ seat_at ws b) where
-  pub frame_start : r.function < length starts
-  frame_start = rw (is, e) (start_inside w table s)
+-- the seat of a frame that was read, and where its function's body starts
+module _ {w : List ℕ} (ws : List ℕ) (b : ℕ) (table : WellFormed w) (s : Stands w (frame_function ws b) (frame_node ws b) (frame_count ws b)) {r : Seat} (is : r ≡ seat_at ws b) where
+  pub frame_start : WellFormed w × (r.function < functions w)
+  frame_start = (table, rw is s.function)
 
-  pub start_here : get_or starts r.function 0 ≡ start_of w (frame_function ws b)
-  start_here = rw is (start_is w table starts e s)
+  module _ {start : ℕ} (e : start ≡ start_of w r.function) where
+    start_here : start ≡ start_of w (frame_function ws b)
+    start_here = rw is at e
 
-  pub frame_inside : get_or starts r.function 0 + 4 * r.node + 4 ≤ length w
-  frame_inside = rw (start_here, is) (inside w table s).0
+    pub frame_inside : start + 4 * r.node + 4 ≤ length w
+    frame_inside = rw (start_here, is) (inside w table s).0
 
-  -- an arithmetic frame's node
-  module _ (t : tag_at w (start_of w (frame_function ws b)) (frame_node ws b) ≡ 2) (x : Node) (is_x : x ≡ node_at w (get_or starts r.function 0) r.node) where
-    node_is : node_at w (start_of w (frame_function ws b)) (frame_node ws b) ≡ x
-    node_is = sym (rw (start_here, is) at is_x)
+    -- an arithmetic frame's node
+    module _ (t : tag_at w (start_of w (frame_function ws b)) (frame_node ws b) ≡ 2) {x : Node} (is_x : x ≡ node_at w start r.node) where
+      node_is : node_at w (start_of w (frame_function ws b)) (frame_node ws b) ≡ x
+      node_is = sym (rw (start_here, is) at is_x)
 
-    pub arithmetic_node : (o : Operation) × (x ≡ Arithmetic o (b_at w (start_of w (frame_function ws b)) (frame_node ws b)))
-    arithmetic_node = let a = operation_in w table s t in (a.0, sym node_is ∙ a.1)
+      pub arithmetic_node : (o : Operation) × (x ≡ Arithmetic o (b_at w (start_of w (frame_function ws b)) (frame_node ws b)))
+      arithmetic_node = let a = operation_in w table s t in (a.0, sym node_is ∙ a.1)
 
-    pub operation_is : (v : ℕ) (o : Operation) (d : ℕ) → x ≡ Arithmetic o d → (y : ℕ) → y ≡ frame_value ws b → operation w ws b v ≡ placed_result r.function r.node (computed o y v)
-    unfolding operation_of
-    operation_is v o d e y is_y = rw (node_is ∙ e, is, is_y)
+      pub operation_is : (v : ℕ) {o : Operation} {d : ℕ} → x ≡ Arithmetic o d → {y : ℕ} → y ≡ frame_value ws b → operation w ws b v ≡ placed_result r.function r.node (computed o y v)
+      unfolding operation_of
+      operation_is v e is_y = rw (node_is ∙ e, is, is_y)
 
-  module _ (ls ls' : List ℕ) (l : ls' ≡ loaded ls ws (locals_word b) r.count) where
-    pub second_child : (q : ℕ) → q ≡ b_at w (get_or starts r.function 0) r.node → Child w ws ls b false ls' (record { function = r.function; node = q; count = r.count })
-    second_child q x = record { seat = rw (rw (start_here, is) at x, is); locals = rw is at l }
+    module _ {ls ls' : List ℕ} (l : ls' ≡ loaded ls ws (locals_word b) r.count) where
+      pub second_child : {q : ℕ} → q ≡ b_at w start r.node → Child w ws ls b false ls' (record { function = r.function; node = q; count = r.count })
+      second_child x = record { seat = rw (rw (start_here, is) at x, is); locals = rw is at l }
 
-    pub third_child : (q : ℕ) → q ≡ c_at w (get_or starts r.function 0) r.node → Child w ws ls b true ls' (record { function = r.function; node = q; count = r.count })
-    third_child q x = record { seat = rw (rw (start_here, is) at x, is); locals = rw is at l }
+      pub third_child : {q : ℕ} → q ≡ c_at w start r.node → Child w ws ls b true ls' (record { function = r.function; node = q; count = r.count })
+      third_child x = record { seat = rw (rw (start_here, is) at x, is); locals = rw is at l }
 
 -- two locals more
 pub concluded : (w ws ls : List ℕ) (b v : ℕ) (ls₁ ls₂ ls₃ : List ℕ) (r : Seat) → Child w ws ls b true ls₁ r → ls₂ ≡ appended ls₁ r.count (frame_value ws b) → ls₃ ≡ appended ls₂ (r.count + 1) v

@@ -4,28 +4,19 @@ use mathlib.Core.Path.{◌≡◌, sym, ap, ◌∙◌}
 use mathlib.Core.List.{List}
 use mathlib.Core.Bool.{cond}
 use native.Mathlib.Omega.{arith}
-use lib.ListN.{length, get_or}
+use lib.ListN.{length}
 use lib.Dec.{ltb}
 use Rattle.table.specs.declared.Operation.{Operation}
 use Rattle.table.specs.declared.Node.TheVariants.{Local, Arithmetic, Call, Unknown}
 use Rattle.table.specs.Words.{functions, arity_at, nodes_at, start_of, body_at, tag_at, a_at, b_at, c_at}
 use Rattle.table.specs.Nodes.{node_of, node_at}
-use Rattle.table.specs.Read.{starts_of}
 use Rattle.table.specs.WellFormed.{WellFormed, Subtree}
 use Rattle.table.proofs.Bodies.{node_inside}
 use Rattle.table.proofs.Trees.{moves}
 use Rattle.table.proofs.Views.{at_local, at_arithmetic, at_choose, at_let, at_call, at_both, first_of, later_of_lem, tag_for, node_tag, known_node}
-use Rattle.table.proofs.Filling.{starts_of_lem, starts_sixty_four}
 use Rattle.moves.specs.Ready.{Stands}
 
 module _ (w : List ℕ) (table : WellFormed w) where
-  -- the array of starts, read at a function
-  pub start_inside : {f p k : ℕ} → Stands w f p k → f < length (starts_of w)
-  start_inside {f} s = omega (arith, starts_sixty_four w, s.function, table.contents.header.few)
-
-  pub start_is : (l : List ℕ) → l ≡ starts_of w → {f p k : ℕ} → Stands w f p k → get_or l f 0 ≡ start_of w f
-  start_is l e {f} s = rw e (starts_of_lem w f s.function table.contents.header.few)
-
   pub inside : {f p k : ℕ} → Stands w f p k → (start_of w f + 4 * p + 4 ≤ length w) × (p < 4000)
   inside {f} {p} s =
       let m = moves w (body_at w f) s.tree in

@@ -6,7 +6,7 @@ use mathlib.Core.Path.{◌≡◌, refl, sym, ap, ◌∙◌}
 use mathlib.Core.Bool.{Bool, true, false, cond}
 use mathlib.Core.List.{List, [], ◌∷◌, ◌++◌}
 use native.Mathlib.Omega.{arith}
-use lib.ListN.{length, get_or, take, drop, length-drop, length-append, get_or-eq_default}
+use lib.ListN.{length, take, drop, length-drop, length-append, get_or-eq_default}
 use lib.Seq.{length-take-le}
 use lib.Dec.{ltb, eqb}
 use borrow.Author.Tests.{lt-ltb, le-ltb}
@@ -17,7 +17,6 @@ use Rattle.schedule.specs.Machine.{Slot, ordinary, plain_right, promoted_right, 
 use Rattle.schedule.specs.Bounds.{total, kept_spans}
 use Rattle.table.specs.Words.{functions, arity_at, start_of, tag_at, a_at, b_at}
 use Rattle.table.specs.Nodes.{node_at}
-use Rattle.table.specs.Read.{starts_of}
 use Rattle.frames.specs.Frames.{seat_at, locals_word, arguments_word, frame_kind, frame_function, frame_node, frame_count, frame_value, frame_before, frame_left, frame_locals, frame_arguments, turned, collected, loaded, appended}
 use Rattle.frames.proofs.Writes.{Turned, Loaded, is_turned, is_collected, is_loaded, is_appended}
 use Rattle.table.specs.declared.Operation.{Operation}
@@ -35,7 +34,7 @@ use Rattle.moves.specs.declared.Step.{Step}
 use Rattle.moves.specs.declared.Step.TheVariants.{Go, Value, Halt}
 use Rattle.moves.specs.Layout.{code_at, slots, slot_of, slot_at, stack_of, control_of, run_counts_of, state_of, result_of, ticked, restarted, oldest_without, halted}
 use Rattle.moves.specs.Ready.{Stands, tag_of, Fitting, FittingAt, Held, Controlled, Oldest, Kept, Ready, Paid, KeptBy, Stepped, Returns, Sitting, Child, Concluded, Operand, called_at, stopped_at, placed_result, operation_of, operation, Resumed, resumes, stays}
-use Rattle.moves.proofs.Nodes.{start_is, arithmetic_in, operation_in, choose_in, let_in, both_in, called_in, argument_later, enter}
+use Rattle.moves.proofs.Nodes.{arithmetic_in, operation_in, choose_in, let_in, both_in, called_in, argument_later, enter}
 use Rattle.moves.proofs.Frames.{frame_locals_lem, body_locals}
 use Rattle.moves.proofs.Stacks.{stack_more, held_more, held_top, same_slots, few_arguments}
 use Rattle.moves.proofs.OldestFork.{oldest_other, oldest_under, oldest_without_lem, without_none}
@@ -186,6 +185,17 @@ high_kinds n h n3 n4 n5 l = omega arith
 pub last_kind : (n : ℕ) → (n ≡ 0 → ⊥) → (n ≡ 1 → ⊥) → (n ≡ 2 → ⊥) → (n ≡ 3 → ⊥) → (n ≡ 4 → ⊥) → (n ≡ 5 → ⊥) → n < 7 → n ≡ 6
 last_kind n n0 n1 n2 n3 n4 n5 l = high_kinds n (low_kinds n n0 n1 n2) n3 n4 n5 l
 
+-- an operation that gave a value, and one that failed
+value_only : (f p z : ℕ) (c : prelude.Result ℕ Failure) → Ok z ≡ placed_result f p c → result c ≡ close (return z)
+unfolding placed_result result
+value_only f p z (Ok a) e = let i : a ≡ z = cc in rw i
+value_only f p z (Err d) e = let a : ◌≡◌ {A = ℕ} 0 1 = cc in absurd (omega arith)
+
+failure_only : (f p : ℕ) (h : Stopped) (c : prelude.Result ℕ Failure) → Err h ≡ placed_result f p c → (h ≡ stopped_at h.number f p) × (result c ≡ fail h.number)
+unfolding placed_result result
+failure_only f p h (Ok a) e = let no : ◌≡◌ {A = ℕ} 0 1 = cc in absurd (omega arith)
+failure_only f p h (Err d) e = let i : h ≡ stopped_at (number_of d) f p = cc in rw i (refl, refl)
+
 -- one of two children
 either : (w : List ℕ) (f k x y : ℕ) (b : Bool) → Stands w f x k → Stands w f y k → Stands w f (cond b x y) k
 either w f k x y true a c = a
@@ -320,10 +330,10 @@ module _ (w ws ls : List ℕ) (plan : Plan) (s : Registers) (v t : ℕ) where
       spared = spared_same ws;
     })
 
-  -- the function that a call's frame calls, read through the array of starts
-  module _ (q : Returns w ws ls plan s v t 4) (starts : List ℕ) (e : starts ≡ starts_of w) (r : Seat) (is : r ≡ seat_at ws (32 * t)) (g : ℕ) (is-g : g ≡ a_at w (get_or starts r.function 0) r.node) where
+  -- the function that a call's frame calls
+  module _ (q : Returns w ws ls plan s v t 4) {r : Seat} (is : r ≡ seat_at ws (32 * t)) {start : ℕ} (e : start ≡ start_of w r.function) {g : ℕ} (is-g : g ≡ a_at w start r.node) where
     pub called_here : g ≡ called_at w ws (32 * t)
-    called_here = is-g ∙ rw (is, start_is w q.ready.kept.table starts e (top w ws ls plan s v t 4 q).stands)
+    called_here = is-g ∙ rw (e, is)
 
     pub called_inside : 2 * g + 1 < length w
     called_inside = omega (arith, called_here, called_in w q.ready.kept.table (top w ws ls plan s v t 4 q).stands (tag_here w ws ls plan s v t 4 q), q.ready.kept.table.contents.header.room)
@@ -414,25 +424,21 @@ module _ (w ws ls : List ℕ) (plan : Plan) (s : Registers) (v t : ℕ) (q : Ret
   pub operand : Operand w ws (32 * t)
   operand = record { table = q.ready.kept.table; room = room w ws ls plan s v t 1 q; stands = (top w ws ls plan s v t 1 q).stands; tag = tag_here w ws ls plan s v t 1 q }
 
-  stepped_result : Paid plan s → (z : ℕ) → arrive w frame v ≡ close (return z) → Stepped w ws ls plan s ws ls (Go (ticked s (Ret z) t s.oldest))
+  pub stepped_result : Paid plan s → (z : ℕ) → Ok z ≡ operation w ws (32 * t) v → (n : Registers) → n ≡ ticked s (Ret z) t s.oldest → Stepped w ws ls plan s ws ls (Go n)
   unfolding slot_of control_of Controlled
-  stepped_result paid z a =
+  stepped_result paid z e n u =
       closed w ws ls plan s v t 1 q ls (Ret z) (return z) refl q.ready.kept.sixteen tt (λ y. omega arith)
-      (closes w ws ls plan s v t 1 q paid frame (return z) a) _ refl
+      (closes w ws ls plan s v t 1 q paid frame (return z) (arrives ∙ value_only _ _ z (computed the_operation.0 x v) (e ∙ steps))) n u
 
-  stepped_failure : Paid plan s → (i : ℕ) → arrive w frame v ≡ fail i → Stepped w ws ls plan s ws ls (Halt (stopped_at i (frame_function ws (32 * t)) (frame_node ws (32 * t))))
+  pub stepped_failure : Paid plan s → (h : Stopped) → Err h ≡ operation w ws (32 * t) v → Stepped w ws ls plan s ws ls (Halt h)
   unfolding slot_of result_of KeptBy
-  stepped_failure paid i a = record { same = returned w ws ls plan s v t 1 q ∙ fails w ws ls plan s v t 1 q paid frame i a; kept = tt; spared = spared_same ws }
+  stepped_failure paid h e =
+      let o = failure_only _ _ h (computed the_operation.0 x v) (e ∙ steps) in
+      rw o.0 (record { same = returned w ws ls plan s v t 1 q ∙ fails w ws ls plan s v t 1 q paid frame h.number (arrives ∙ o.1); kept = tt; spared = spared_same ws })
 
   pub stepped_resumed : Paid plan s → (o : prelude.Result ℕ Stopped) → o ≡ operation w ws (32 * t) v → (r : Step) → Resumed s t o r → Stepped w ws ls plan s ws ls r
-  unfolding placed_result result
-  stepped_resumed paid o e r u = by (computed the_operation.0 x v) (e ∙ steps) arrives u
-    where
-      by : (c : prelude.Result ℕ Failure) → o ≡ placed_result (frame_function ws (32 * t)) (frame_node ws (32 * t)) c → arrive w frame v ≡ result c → Resumed s t o r → Stepped w ws ls plan s ws ls r
-      by (Ok z) e a (resumes y i u) = let y≡z : y ≡ z = cc in rw (u, y≡z) (stepped_result paid z a)
-      by (Ok z) e a (stays h i u) = let no : ◌≡◌ {A = ℕ} 0 1 = cc in absurd (omega arith)
-      by (Err d) e a (resumes y i u) = let no : ◌≡◌ {A = ℕ} 0 1 = cc in absurd (omega arith)
-      by (Err d) e a (stays h i u) = let is : h ≡ stopped_at (number_of d) (frame_function ws (32 * t)) (frame_node ws (32 * t)) = cc in rw (u, is) (stepped_failure paid (number_of d) a)
+  stepped_resumed paid o e r (resumes z i u) = rw u (stepped_result paid z (sym i ∙ e) _ refl)
+  stepped_resumed paid o e r (stays h i u) = rw u (stepped_failure paid h (sym i ∙ e))
 
 -- NO FUEL: a frame that is not promoted is not reached
 module _ (w ws ls : List ℕ) (plan : Plan) (s : Registers) (v t kind : ℕ) (q : Returns w ws ls plan s v t kind) (dry : plan.fuel.0 ≤ s.transitions) where

@@ -16,9 +16,9 @@ use Rattle.schedule.specs.Machine.{RunCounts}
 use Rattle.table.specs.declared.Operation.{Operation}
 use Rattle.table.specs.declared.Node.{Node}
 use Rattle.table.specs.declared.Node.TheVariants.{Constant, Local, Arithmetic, Choose, Let, Call, Both, Unknown}
-use Rattle.table.specs.Words.{arity_at, start_of, tag_at, a_at}
+use Rattle.table.specs.Words.{functions, arity_at, start_of, tag_at, a_at}
+use Rattle.table.specs.WellFormed.{WellFormed}
 use Rattle.table.specs.Nodes.{node_at}
-use Rattle.table.specs.Read.{starts_of}
 use Rattle.table.proofs.Views.{tag_for}
 use Rattle.frames.specs.Frames.{frame_left, pushed}
 use Rattle.frames.proofs.Writes.{Pushed, is_pushed}
@@ -31,7 +31,7 @@ use Rattle.moves.specs.declared.Step.{Step}
 use Rattle.moves.specs.declared.Step.TheVariants.{Go}
 use Rattle.moves.specs.Layout.{slot_of, slot_at, stack_of, control_of, run_counts_of, state_of, result_of, ticked, oldest_with, halted}
 use Rattle.moves.specs.Ready.{Stands, Fitting, Held, Controlled, Oldest, Kept, Ready, KeptBy, Spared, Stepped, Framed, transited, Opened, dry, opens, Forked, forks, OpenedBoth, born, plain}
-use Rattle.moves.proofs.Nodes.{start_inside, start_is, inside, local_in, tag_is, arithmetic_in, choose_in, let_in, both_in, argument_first, enter, called_is, callee}
+use Rattle.moves.proofs.Nodes.{inside, local_in, tag_is, arithmetic_in, choose_in, let_in, both_in, argument_first, enter, called_is, callee}
 use Rattle.moves.proofs.Stacks.{length_stack, stack_more, held_more, same_slots}
 use Rattle.moves.proofs.OldestFork.{oldest_other, oldest_with_lem}
 use Rattle.moves.proofs.Sparing.{spared_same, spared_pushed}
@@ -84,13 +84,12 @@ module _ (w ws ls : List ℕ) (plan : Plan) (s : Registers) (r : Ready w ws ls p
     unfolding Controlled
     here = rw e at r.kept.control
 
-    -- the node that was read through the array of starts
-    module _ (starts : List ℕ) (a : starts ≡ starts_of w) where
-      pub start_read : f < length starts
-      start_read = rw a (start_inside w r.kept.table here)
+    -- where its function's body starts
+    pub start_read : WellFormed w × (f < functions w)
+    start_read = (r.kept.table, here.function)
 
-      pub node_read : get_or starts f 0 + 4 * p + 4 ≤ length w
-      node_read = rw (start_is w r.kept.table starts a here) (inside w r.kept.table here).0
+    pub node_read : start_of w f + 4 * p + 4 ≤ length w
+    node_read = (inside w r.kept.table here).0
 
     abbrev code : Code
     code = record { function = f; node = p; locals = take k ls }
@@ -268,3 +267,7 @@ module _ (w ws ls : List ℕ) (plan : Plan) (s : Registers) (r : Ready w ws ls p
             kept = pushed_kept ws' long 5 0 o' i u ok child old bo;
             spared = opened_spares ws' 5 0 i e;
           })
+
+-- one transition more can be counted
+pub may_tick : {w ws ls : List ℕ} {plan : Plan} {s : Registers} → Ready w ws ls plan s → (s.credits.0 < 2 ^ 60) × (s.span.0 < 2 ^ 60) × (s.transitions < 2 ^ 60)
+may_tick r = let b = bounds _ _ _ _ _ r in (b.0, b.1, b.2)

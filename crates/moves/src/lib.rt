@@ -4,12 +4,14 @@
 
 ghost use Rattle.std.specs.Prelude.{◌≡◌, false, ◌&&◌, ◌+◌, ◌*◌, ◌/◌, ◌<◌, ◌≤◌, ◌^◌, max, length, ltb, leb};
 ghost use Rattle.table.specs.Words.{arity_at};
-ghost use Rattle.table.specs.Read.{starts_of};
 ghost use Rattle.frames.specs.Frames.{frame_kind, frame_count, frame_value};
 ghost use Rattle.moves.specs.Layout.{ticked, restarted, risen, oldest_with, oldest_without, halted};
 ghost use Rattle.moves.specs.Ready.{Returns, Paid, Stepped, Ticks, Restarts, Framed, Opened, Forked, OpenedBoth, Sitting, Child, Operand, operation, Resumed, called_at, Concluded, Found, Promoted};
 
+mod job;
+
 use frames::Seat;
+pub use job::Job;
 use schedule::{Credits, Fuel, Span};
 use table::Node;
 
@@ -84,12 +86,6 @@ pub enum Step {
     Halt(Stopped),
 }
 
-fn higher(a: usize, b: usize) -> usize
-    ensures { result ≡ max a b }
-{
-    if b <= a { a } else { b }
-}
-
 pub fn halt(number: u32, function: usize, node: usize) -> Step
     ensures { result ≡ halted number function node }
 {
@@ -105,19 +101,14 @@ fn tick(s: Registers, control: Control, depth: usize, oldest: usize) -> Register
     requires { (s.credits.0 < 2 ^ 60) × (s.span.0 < 2 ^ 60) × (s.transitions < 2 ^ 60) }
     ensures { result ≡ ticked s control depth oldest }
 {
-    let credits = s.credits;
-    let span = s.span;
-    let more = credits.one_more();
-    let longer = span.one_more();
     Registers {
         control,
         depth,
         oldest,
-        credits: more,
-        span: longer,
+        credits: s.credits.one_more(),
+        span: s.span.one_more(),
         transitions: s.transitions + 1,
-        forks: s.forks,
-        deepest: s.deepest,
+        ..s
     }
 }
 
@@ -132,16 +123,14 @@ fn restart(
 ) -> Registers
     ensures { result ≡ restarted s control depth oldest span.0 forks }
 {
-    let credits = Credits::none();
     Registers {
         control,
         depth,
         oldest,
-        credits,
+        credits: Credits::none(),
         span,
-        transitions: s.transitions,
         forks,
-        deepest: s.deepest,
+        ..s
     }
 }
 
@@ -150,19 +139,9 @@ fn rise(s: Registers) -> Registers
     requires { s.depth < 4096 }
     ensures { result ≡ risen s }
 {
-    let control = s.control;
-    let credits = s.credits;
-    let span = s.span;
-    let deepest = higher(s.deepest, s.depth + 1);
     Registers {
-        control,
-        depth: s.depth,
-        oldest: s.oldest,
-        credits,
-        span,
-        transitions: s.transitions,
-        forks: s.forks,
-        deepest,
+        deepest: s.deepest.max(s.depth + 1),
+        ..s
     }
 }
 
@@ -225,7 +204,7 @@ pub fn fork(ws: &mut [u64], locals: &[u64], s: Registers, seat: Seat) -> Step
 fn oldest_with(oldest: usize, depth: usize) -> usize
     ensures { result ≡ oldest_with oldest depth }
 {
-    if oldest < depth { oldest } else { depth }
+    oldest.min(depth)
 }
 
 // The same where the one at `top` is none any more.
@@ -245,39 +224,24 @@ pub fn evaluate_both(ws: &mut [u64], locals: &[u64], plan: Plan, s: Registers, s
 }
 
 // The second child of the node of the frame at b, or its third, with the frame's locals.
-fn child(
-    words: &[u32],
-    starts: &[usize],
-    ws: &[u64],
-    locals: &mut [u64],
-    b: usize,
-    last: bool,
-) -> Seat
-    requires { (Sitting words.now ws.now locals.old b) × (starts.now ≡ starts_of words.now) }
-    ensures { Child words.now ws.now locals.old b last locals.new result }
+fn child(job: Job, ws: &[u64], locals: &mut [u64], b: usize, last: bool) -> Seat
+    requires { Sitting job.words.now ws.now locals.old b }
+    ensures { Child job.entry.words.now ws.now locals.old b last locals.new result }
 {
     let seat = frames::seat_of(ws, b);
-    let function = seat.function;
-    let p = seat.node;
-    let count = seat.count;
-    frames::load_locals(locals, ws, b, count);
-    let start = starts[function];
+    frames::load_locals(locals, ws, b, seat.count);
+    let start = job.start(seat.function);
     let node = if last {
-        table::third(words, start, p)
+        table::third(job.words, start, seat.node)
     } else {
-        table::second(words, start, p)
+        table::second(job.words, start, seat.node)
     };
-    Seat {
-        function,
-        node,
-        count,
-    }
+    Seat { node, ..seat }
 }
 
 // A left operand: the right one is evaluated.
 pub fn ret_left_operand(
-    words: &[u32],
-    starts: &[usize],
+    job: Job,
     ws: &mut [u64],
     locals: &mut [u64],
     plan: Plan,
@@ -285,12 +249,12 @@ pub fn ret_left_operand(
     v: u64,
     top: usize,
 ) -> Step
-    requires { (Returns words.now ws.old locals.old plan s v top 0) × (Paid plan s) × (starts.now ≡ starts_of words.now) }
-    ensures { (Stepped words.now ws.old locals.old plan s ws.new locals.new result) × (Ticks s result) }
+    requires { (Returns job.words.now ws.old locals.old plan s v top 0) × (Paid plan s) }
+    ensures { (Stepped job.entry.words.now ws.old locals.old plan s ws.new locals.new result) × (Ticks s result) }
 {
     let b = frames::WORDS * top;
     frames::turn(ws, b, RIGHT_OPERAND, v, Span::none());
-    let seat = child(words, starts, ws, locals, b, false);
+    let seat = child(job, ws, locals, b, false);
     Step::Go(tick(
         s,
         Control::Eval(seat.function, seat.node, seat.count),
@@ -300,13 +264,13 @@ pub fn ret_left_operand(
 }
 
 // What the operation of the arithmetic frame at b gives on its left operand and v.
-fn operated(words: &[u32], starts: &[usize], ws: &[u64], b: usize, v: u64) -> Result<u64, Stopped>
-    requires { (Operand words.now ws.now b) × (starts.now ≡ starts_of words.now) }
-    ensures { result ≡ operation words.now ws.now b v }
+fn operated(job: Job, ws: &[u64], b: usize, v: u64) -> Result<u64, Stopped>
+    requires { Operand job.words.now ws.now b }
+    ensures { result ≡ operation job.entry.words.now ws.now b v }
 {
     let seat = frames::seat_of(ws, b);
     let Seat { function, node, .. } = seat;
-    let Node::Arithmetic(operation, _) = table::node_at(words, starts[function], node) else {
+    let Node::Arithmetic(operation, _) = table::node_at(job.words, job.start(function), node) else {
         return Err(Stopped {
             number: 4,
             function,
@@ -333,8 +297,7 @@ fn resumed(s: Registers, top: usize, computed: Result<u64, Stopped>) -> Step
 
 // A right operand: the operation is made.
 pub fn ret_right_operand(
-    words: &[u32],
-    starts: &[usize],
+    job: Job,
     ws: &[u64],
     locals: &[u64],
     plan: Plan,
@@ -342,17 +305,16 @@ pub fn ret_right_operand(
     v: u64,
     top: usize,
 ) -> Step
-    requires { (Returns words.now ws.now locals.now plan s v top 1) × (Paid plan s) × (starts.now ≡ starts_of words.now) }
-    ensures { (Stepped words.now ws.now locals.now plan s ws.now locals.now result) × (Ticks s result) }
+    requires { (Returns job.words.now ws.now locals.now plan s v top 1) × (Paid plan s) }
+    ensures { (Stepped job.entry.words.now ws.now locals.now plan s ws.now locals.now result) × (Ticks s result) }
 {
-    let computed = operated(words, starts, ws, frames::WORDS * top, v);
+    let computed = operated(job, ws, frames::WORDS * top, v);
     resumed(s, top, computed)
 }
 
 // A condition: the branch is evaluated.
 pub fn ret_condition(
-    words: &[u32],
-    starts: &[usize],
+    job: Job,
     ws: &[u64],
     locals: &mut [u64],
     plan: Plan,
@@ -360,10 +322,10 @@ pub fn ret_condition(
     v: u64,
     top: usize,
 ) -> Step
-    requires { (Returns words.now ws.now locals.old plan s v top 2) × (Paid plan s) × (starts.now ≡ starts_of words.now) }
-    ensures { (Stepped words.now ws.now locals.old plan s ws.now locals.new result) × (Ticks s result) }
+    requires { (Returns job.words.now ws.now locals.old plan s v top 2) × (Paid plan s) }
+    ensures { (Stepped job.entry.words.now ws.now locals.old plan s ws.now locals.new result) × (Ticks s result) }
 {
-    let seat = child(words, starts, ws, locals, frames::WORDS * top, v == 0);
+    let seat = child(job, ws, locals, frames::WORDS * top, v == 0);
     Step::Go(tick(
         s,
         Control::Eval(seat.function, seat.node, seat.count),
@@ -374,8 +336,7 @@ pub fn ret_condition(
 
 // The first of a let: the second is evaluated with the value added.
 pub fn ret_binding(
-    words: &[u32],
-    starts: &[usize],
+    job: Job,
     ws: &[u64],
     locals: &mut [u64],
     plan: Plan,
@@ -383,10 +344,10 @@ pub fn ret_binding(
     v: u64,
     top: usize,
 ) -> Step
-    requires { (Returns words.now ws.now locals.old plan s v top 3) × (Paid plan s) × (starts.now ≡ starts_of words.now) }
-    ensures { (Stepped words.now ws.now locals.old plan s ws.now locals.new result) × (Ticks s result) }
+    requires { (Returns job.words.now ws.now locals.old plan s v top 3) × (Paid plan s) }
+    ensures { (Stepped job.entry.words.now ws.now locals.old plan s ws.now locals.new result) × (Ticks s result) }
 {
-    let seat = child(words, starts, ws, locals, frames::WORDS * top, false);
+    let seat = child(job, ws, locals, frames::WORDS * top, false);
     let count = seat.count;
     frames::append(locals, count, v);
     Step::Go(tick(
@@ -399,8 +360,7 @@ pub fn ret_binding(
 
 // An argument that is not the last: the next one is evaluated.
 fn next_argument(
-    words: &[u32],
-    starts: &[usize],
+    job: Job,
     ws: &mut [u64],
     locals: &mut [u64],
     plan: Plan,
@@ -409,12 +369,12 @@ fn next_argument(
     top: usize,
     n: usize,
 ) -> Step
-    requires { (Returns words.now ws.old locals.old plan s v top 4) × (Paid plan s) × (starts.now ≡ starts_of words.now) × (n ≡ frame_value ws.old (32 * top)) × (n + 1 < arity_at words.now (called_at words.now ws.old (32 * top))) }
-    ensures { (Stepped words.now ws.old locals.old plan s ws.new locals.new result) × (Ticks s result) }
+    requires { (Returns job.words.now ws.old locals.old plan s v top 4) × (Paid plan s) × (n ≡ frame_value ws.old (32 * top)) × (n + 1 < arity_at job.words.now (called_at job.words.now ws.old (32 * top))) }
+    ensures { (Stepped job.entry.words.now ws.old locals.old plan s ws.new locals.new result) × (Ticks s result) }
 {
     let b = frames::WORDS * top;
     frames::collect(ws, b, n, v);
-    let seat = child(words, starts, ws, locals, b, 1 < n + 1);
+    let seat = child(job, ws, locals, b, 1 < n + 1);
     Step::Go(tick(
         s,
         Control::Eval(seat.function, seat.node, seat.count),
@@ -425,7 +385,7 @@ fn next_argument(
 
 // The last argument: the called body is evaluated with just the arguments.
 fn last_argument(
-    words: &[u32],
+    job: Job,
     ws: &[u64],
     locals: &mut [u64],
     plan: Plan,
@@ -435,8 +395,8 @@ fn last_argument(
     n: usize,
     g: usize,
 ) -> Step
-    requires { (Returns words.now ws.now locals.old plan s v top 4) × (Paid plan s) × (n ≡ frame_value ws.now (32 * top)) × (arity_at words.now g ≤ n + 1) × (g ≡ called_at words.now ws.now (32 * top)) }
-    ensures { (Stepped words.now ws.now locals.old plan s ws.now locals.new result) × (Ticks s result) }
+    requires { (Returns job.words.now ws.now locals.old plan s v top 4) × (Paid plan s) × (n ≡ frame_value ws.now (32 * top)) × (arity_at job.words.now g ≤ n + 1) × (g ≡ called_at job.words.now ws.now (32 * top)) }
+    ensures { (Stepped job.entry.words.now ws.now locals.old plan s ws.now locals.new result) × (Ticks s result) }
 {
     frames::load_arguments(locals, ws, frames::WORDS * top, n);
     frames::append(locals, n, v);
@@ -446,8 +406,7 @@ fn last_argument(
 
 // An argument of a call.
 pub fn ret_argument(
-    words: &[u32],
-    starts: &[usize],
+    job: Job,
     ws: &mut [u64],
     locals: &mut [u64],
     plan: Plan,
@@ -455,25 +414,23 @@ pub fn ret_argument(
     v: u64,
     top: usize,
 ) -> Step
-    requires { (Returns words.now ws.old locals.old plan s v top 4) × (Paid plan s) × (starts.now ≡ starts_of words.now) }
-    ensures { (Stepped words.now ws.old locals.old plan s ws.new locals.new result) × (Ticks s result) }
+    requires { (Returns job.words.now ws.old locals.old plan s v top 4) × (Paid plan s) }
+    ensures { (Stepped job.entry.words.now ws.old locals.old plan s ws.new locals.new result) × (Ticks s result) }
 {
     let b = frames::WORDS * top;
     let seat = frames::seat_of(ws, b);
-    let function = seat.function;
     let n = frames::value_of(ws, b) as usize;
-    let g = table::called(words, starts[function], seat.node);
-    if n + 1 < table::arity(words, g) {
-        next_argument(words, starts, ws, locals, plan, s, v, top, n)
+    let g = table::called(job.words, job.start(seat.function), seat.node);
+    if n + 1 < table::arity(job.words, g) {
+        next_argument(job, ws, locals, plan, s, v, top, n)
     } else {
-        last_argument(words, ws, locals, plan, s, v, top, n, g)
+        last_argument(job, ws, locals, plan, s, v, top, n, g)
     }
 }
 
 // The left value of a plain fork: the right branch is evaluated.
 pub fn ret_plain_left(
-    words: &[u32],
-    starts: &[usize],
+    job: Job,
     ws: &mut [u64],
     locals: &mut [u64],
     plan: Plan,
@@ -481,12 +438,12 @@ pub fn ret_plain_left(
     v: u64,
     top: usize,
 ) -> Step
-    requires { (Returns words.now ws.old locals.old plan s v top 5) × (Paid plan s) × (starts.now ≡ starts_of words.now) }
-    ensures { Stepped words.now ws.old locals.old plan s ws.new locals.new result }
+    requires { (Returns job.words.now ws.old locals.old plan s v top 5) × (Paid plan s) }
+    ensures { Stepped job.entry.words.now ws.old locals.old plan s ws.new locals.new result }
 {
     let b = frames::WORDS * top;
     frames::turn(ws, b, PLAIN_RIGHT, v, Span::none());
-    let seat = child(words, starts, ws, locals, b, false);
+    let seat = child(job, ws, locals, b, false);
     let oldest = oldest_without(s.oldest, top);
     Step::Go(tick(
         s,
@@ -497,19 +454,12 @@ pub fn ret_plain_left(
 }
 
 // The body of the node of the fork at b, with both values.
-fn body(
-    words: &[u32],
-    starts: &[usize],
-    ws: &[u64],
-    locals: &mut [u64],
-    b: usize,
-    v: u64,
-) -> Control
-    requires { (Sitting words.now ws.now locals.old b) × (starts.now ≡ starts_of words.now) × (frame_count ws.now b + 2 ≤ 16) }
-    ensures { Concluded words.now ws.now locals.old b v locals.new result }
+fn body(job: Job, ws: &[u64], locals: &mut [u64], b: usize, v: u64) -> Control
+    requires { (Sitting job.words.now ws.now locals.old b) × (frame_count ws.now b + 2 ≤ 16) }
+    ensures { Concluded job.entry.words.now ws.now locals.old b v locals.new result }
 {
     let left = frames::value_of(ws, b);
-    let seat = child(words, starts, ws, locals, b, true);
+    let seat = child(job, ws, locals, b, true);
     let count = seat.count;
     frames::append(locals, count, left);
     frames::append(locals, count + 1, v);
@@ -518,8 +468,7 @@ fn body(
 
 // The right value of a plain fork: its body is evaluated.
 pub fn ret_plain_right(
-    words: &[u32],
-    starts: &[usize],
+    job: Job,
     ws: &[u64],
     locals: &mut [u64],
     plan: Plan,
@@ -527,17 +476,16 @@ pub fn ret_plain_right(
     v: u64,
     top: usize,
 ) -> Step
-    requires { (Returns words.now ws.now locals.old plan s v top 6) × (Paid plan s) × (starts.now ≡ starts_of words.now) }
-    ensures { (Stepped words.now ws.now locals.old plan s ws.now locals.new result) × (Ticks s result) }
+    requires { (Returns job.words.now ws.now locals.old plan s v top 6) × (Paid plan s) }
+    ensures { (Stepped job.entry.words.now ws.now locals.old plan s ws.now locals.new result) × (Ticks s result) }
 {
-    let control = body(words, starts, ws, locals, frames::WORDS * top, v);
+    let control = body(job, ws, locals, frames::WORDS * top, v);
     Step::Go(tick(s, control, top, s.oldest))
 }
 
 // The left value of a promoted fork, with no transition: the right branch is a fresh machine.
 pub fn turned(
-    words: &[u32],
-    starts: &[usize],
+    job: Job,
     ws: &mut [u64],
     locals: &mut [u64],
     plan: Plan,
@@ -545,13 +493,13 @@ pub fn turned(
     v: u64,
     top: usize,
 ) -> Step
-    requires { (Returns words.now ws.old locals.old plan s v top 7) × (starts.now ≡ starts_of words.now) }
-    ensures { (Stepped words.now ws.old locals.old plan s ws.new locals.new result) × (Restarts s result) }
+    requires { Returns job.words.now ws.old locals.old plan s v top 7 }
+    ensures { (Stepped job.entry.words.now ws.old locals.old plan s ws.new locals.new result) × (Restarts s result) }
 {
     let span = s.span;
     let b = frames::WORDS * top;
     frames::turn(ws, b, PROMOTED_RIGHT, v, span);
-    let seat = child(words, starts, ws, locals, b, false);
+    let seat = child(job, ws, locals, b, false);
     Step::Go(restart(
         s,
         Control::Eval(seat.function, seat.node, seat.count),
@@ -564,8 +512,7 @@ pub fn turned(
 
 // The right value of a promoted fork, with no transition: the body goes on after both.
 pub fn joined(
-    words: &[u32],
-    starts: &[usize],
+    job: Job,
     ws: &[u64],
     locals: &mut [u64],
     plan: Plan,
@@ -574,15 +521,15 @@ pub fn joined(
     top: usize,
     kind: u64,
 ) -> Step
-    requires { (Returns words.now ws.now locals.old plan s v top kind) × (8 ≤ kind) × (starts.now ≡ starts_of words.now) }
-    ensures { (Stepped words.now ws.now locals.old plan s ws.now locals.new result) × (Restarts s result) }
+    requires { (Returns job.words.now ws.now locals.old plan s v top kind) × (8 ≤ kind) }
+    ensures { (Stepped job.entry.words.now ws.now locals.old plan s ws.now locals.new result) × (Restarts s result) }
 {
     let b = frames::WORDS * top;
     let before = frames::before_of(ws, b);
     let left = frames::left_of(ws, b);
     let right = s.span;
     let whole = before.joined(plan.tau, left, right);
-    let control = body(words, starts, ws, locals, b, v);
+    let control = body(job, ws, locals, b, v);
     Step::Go(restart(s, control, top, s.oldest, whole, s.forks))
 }
 
@@ -599,12 +546,10 @@ fn search(ws: &[u64], from: usize, depth: usize) -> usize
     requires { (32 * depth ≤ length ws.now) × (from ≤ depth) × (depth ≤ 4096) }
     ensures { Found ws.now from depth result }
 {
-    let mut i = from;
-    while i < depth {
+    for i in from..depth {
         if kind_at(ws, i) == PLAIN_LEFT {
             return i;
         }
-        i += 1;
     }
     NO_FORK
 }
@@ -626,9 +571,5 @@ pub fn promote(ws: &mut [u64], s: Registers) -> Registers
 pub fn due(period: u64, credits: Credits, oldest: usize, depth: usize) -> bool
     ensures { result ≡ (leb period credits.0 && ltb oldest depth) }
 {
-    if credits.reach(period) {
-        oldest < depth
-    } else {
-        false
-    }
+    credits.reach(period) && oldest < depth
 }

@@ -1,26 +1,21 @@
 -- `moves::next_argument` meets its contract, by the laws of Returning, Steps, Ticking.
 use Rattle.moves.proofs.Returning.{room, few_here, sitting_collected, stepped_next_argument}
-use Rattle.moves.proofs.Steps.{bounds}
 use Rattle.moves.proofs.Ticking.{ticks_go}
 use native.Mathlib.Omega.{arith}
 use Rattle.moves.proofs.next_argument.Goals as goal
 
 pub collect-requires : goal.collect-requires
 collect-requires c =
-    (room c.args.words.now c.args.ws.now c.args.locals.now c.args.plan c.args.s c.args.v c.args.top 4 c.requires.0, few_here c.args.words.now c.args.ws.now c.args.locals.now c.args.plan c.args.s c.args.v c.args.top c.requires.0 c.args.n c.requires.3)
+    (room _ _ _ _ _ _ _ 4 c.requires.0, few_here _ _ _ _ _ _ _ c.requires.0 c.args.n c.requires.2)
 
 pub overflow_add-n : goal.overflow_add-n
 overflow_add-n c =
-    omega (arith, few_here c.args.words.now c.args.ws.now c.args.locals.now c.args.plan c.args.s c.args.v c.args.top c.requires.0 c.args.n c.requires.3)
+    omega (arith, few_here _ _ _ _ _ _ _ c.requires.0 c.args.n c.requires.2)
 
 pub child-seat-requires : goal.child-seat-requires
 child-seat-requires c =
-    (sitting_collected c.args.words.now c.args.ws.now c.args.locals.now c.args.plan c.args.s c.args.v c.args.top 4 c.requires.0 c.args.n (few_here c.args.words.now c.args.ws.now c.args.locals.now c.args.plan c.args.s c.args.v c.args.top c.requires.0 c.args.n c.requires.3) _ c.collect.auto.ws c.collect.ensures, c.requires.2)
-
-pub tick-requires : goal.tick-requires
-tick-requires c =
-    let b = bounds c.args.words.now c.args.ws.now c.args.locals.now c.args.plan c.args.s c.requires.0.ready in (b.0, b.1, b.2)
+    sitting_collected _ _ _ _ _ _ _ 4 c.requires.0 c.args.n (few_here _ _ _ _ _ _ _ c.requires.0 c.args.n c.requires.2) _ c.collect.auto.ws c.collect.ensures
 
 pub returns : goal.returns
 returns c =
-    (stepped_next_argument c.args.words.now c.args.ws.now c.args.locals.now c.args.plan c.args.s c.args.v c.args.top c.requires.0 c.args.n c.requires.3 c.requires.1 c.requires.4 _ _ _ c.collect.auto.ws c.collect.ensures c.child-seat.ensures _ c.tick.ensures, ticks_go c.args.s _ _ _ c.tick.ensures)
+    (stepped_next_argument _ _ _ _ _ _ _ c.requires.0 c.args.n c.requires.2 c.requires.1 c.requires.3 _ _ _ c.collect.auto.ws c.collect.ensures c.child-seat.ensures _ c.tick.ensures, ticks_go c.args.s _ _ _ c.tick.ensures)

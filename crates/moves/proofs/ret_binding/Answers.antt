@@ -1,7 +1,6 @@
 -- `moves::ret_binding` meets its contract, by the laws of Returning, Steps, Ticking.
 use Rattle.frames.specs.Frames.{frame_count}
 use Rattle.moves.proofs.Returning.{sitting, binding_few, stepped_binding}
-use Rattle.moves.proofs.Steps.{bounds}
 use Rattle.moves.proofs.Ticking.{ticks_go}
 use Rattle.frames.specs.declared.Seat.{Seat}
 use Prim.Native.Nat.{◌*◌}
@@ -11,20 +10,12 @@ use Rattle.moves.proofs.ret_binding.Goals as goal
 
 pub child-seat-requires : goal.child-seat-requires
 child-seat-requires c =
-    (sitting c.args.words.now c.args.ws.now c.args.locals.now c.args.plan c.args.s c.args.v c.args.top 3 c.requires.0, c.requires.2)
+    sitting _ _ _ _ _ _ _ 3 c.requires.0
 
 pub append-requires : goal.append-requires
 append-requires c =
-    let k : c.child-seat.result.count ≡ frame_count c.args.ws.now (32 * c.args.top) = ap (λ (z : Seat). z.count) c.child-seat.ensures.seat in omega (arith, c.child-seat.auto.locals, c.requires.0.ready.kept.sixteen, binding_few c.args.words.now c.args.ws.now c.args.locals.now c.args.plan c.args.s c.args.v c.args.top c.requires.0)
-
-pub overflow_add-count : goal.overflow_add-count
-overflow_add-count c =
-    let k : c.child-seat.result.count ≡ frame_count c.args.ws.now (32 * c.args.top) = ap (λ (z : Seat). z.count) c.child-seat.ensures.seat in omega (arith, binding_few c.args.words.now c.args.ws.now c.args.locals.now c.args.plan c.args.s c.args.v c.args.top c.requires.0)
-
-pub tick-requires : goal.tick-requires
-tick-requires c =
-    let b = bounds c.args.words.now c.args.ws.now c.args.locals.now c.args.plan c.args.s c.requires.0.ready in (b.0, b.1, b.2)
+    let k : c.child-seat.result.count ≡ frame_count c.args.ws.now (32 * c.args.top) = ap (λ (z : Seat). z.count) c.child-seat.ensures.seat in omega (arith, c.child-seat.auto.locals, c.requires.0.ready.kept.sixteen, binding_few _ _ _ _ _ _ _ c.requires.0)
 
 pub returns : goal.returns
 returns c =
-    (stepped_binding c.args.words.now c.args.ws.now c.args.locals.now c.args.plan c.args.s c.args.v c.args.top c.requires.0 c.requires.1 _ _ _ c.child-seat.ensures c.append.ensures _ c.tick.ensures, ticks_go c.args.s _ _ _ c.tick.ensures)
+    (stepped_binding _ _ _ _ _ _ _ c.requires.0 c.requires.1 _ _ _ c.child-seat.ensures c.append.ensures _ c.tick.ensures, ticks_go c.args.s _ _ _ c.tick.ensures)

@@ -1,17 +1,12 @@
 -- `moves::ret_condition` meets its contract, by the laws of Returning, Steps, Ticking.
 use Rattle.moves.proofs.Returning.{sitting, stepped_condition}
-use Rattle.moves.proofs.Steps.{bounds}
 use Rattle.moves.proofs.Ticking.{ticks_go}
 use Rattle.moves.proofs.ret_condition.Goals as goal
 
 pub child-seat-requires : goal.child-seat-requires
 child-seat-requires c =
-    (sitting c.args.words.now c.args.ws.now c.args.locals.now c.args.plan c.args.s c.args.v c.args.top 2 c.requires.0, c.requires.2)
-
-pub tick-requires : goal.tick-requires
-tick-requires c =
-    let b = bounds c.args.words.now c.args.ws.now c.args.locals.now c.args.plan c.args.s c.requires.0.ready in (b.0, b.1, b.2)
+    sitting _ _ _ _ _ _ _ 2 c.requires.0
 
 pub returns : goal.returns
 returns c =
-    (stepped_condition c.args.words.now c.args.ws.now c.args.locals.now c.args.plan c.args.s c.args.v c.args.top c.requires.0 c.requires.1 _ _ c.child-seat.ensures _ c.tick.ensures, ticks_go c.args.s _ _ _ c.tick.ensures)
+    (stepped_condition _ _ _ _ _ _ _ c.requires.0 c.requires.1 _ _ c.child-seat.ensures _ c.tick.ensures, ticks_go c.args.s _ _ _ c.tick.ensures)

@@ -1,21 +1,12 @@
 -- `moves::ret_left_operand` meets its contract, by the laws of Returning, Steps, Ticking.
-use Rattle.moves.proofs.Returning.{room, sitting_turned, stepped_left_operand}
-use Rattle.moves.proofs.Steps.{bounds}
+use Rattle.moves.proofs.Returning.{sitting_turned, stepped_left_operand}
 use Rattle.moves.proofs.Ticking.{ticks_go}
 use Rattle.moves.proofs.ret_left_operand.Goals as goal
 
-pub turn-requires : goal.turn-requires
-turn-requires c =
-    room c.args.words.now c.args.ws.now c.args.locals.now c.args.plan c.args.s c.args.v c.args.top 0 c.requires.0
-
 pub child-seat-requires : goal.child-seat-requires
 child-seat-requires c =
-    (sitting_turned c.args.words.now c.args.ws.now c.args.locals.now c.args.plan c.args.s c.args.v c.args.top 0 c.requires.0 1 0 _ c.turn.auto.ws (rw c.none.ensures at c.turn.ensures), c.requires.2)
-
-pub tick-requires : goal.tick-requires
-tick-requires c =
-    let b = bounds c.args.words.now c.args.ws.now c.args.locals.now c.args.plan c.args.s c.requires.0.ready in (b.0, b.1, b.2)
+    sitting_turned _ _ _ _ _ _ _ 0 c.requires.0 1 0 _ c.turn.auto.ws (rw c.none.ensures at c.turn.ensures)
 
 pub returns : goal.returns
 returns c =
-    (stepped_left_operand c.args.words.now c.args.ws.now c.args.locals.now c.args.plan c.args.s c.args.v c.args.top c.requires.0 c.requires.1 _ _ _ c.turn.auto.ws (rw c.none.ensures at c.turn.ensures) c.child-seat.ensures _ c.tick.ensures, ticks_go c.args.s _ _ _ c.tick.ensures)
+    (stepped_left_operand _ _ _ _ _ _ _ c.requires.0 c.requires.1 _ _ _ c.turn.auto.ws (rw c.none.ensures at c.turn.ensures) c.child-seat.ensures _ c.tick.ensures, ticks_go c.args.s _ _ _ c.tick.ensures)

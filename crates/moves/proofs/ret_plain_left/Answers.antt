@@ -1,20 +1,11 @@
 -- `moves::ret_plain_left` meets its contract, by the laws of Returning, Steps.
-use Rattle.moves.proofs.Returning.{room, sitting_turned, stepped_plain_left}
-use Rattle.moves.proofs.Steps.{bounds}
+use Rattle.moves.proofs.Returning.{sitting_turned, stepped_plain_left}
 use Rattle.moves.proofs.ret_plain_left.Goals as goal
-
-pub turn-requires : goal.turn-requires
-turn-requires c =
-    room c.args.words.now c.args.ws.now c.args.locals.now c.args.plan c.args.s c.args.v c.args.top 5 c.requires.0
 
 pub child-seat-requires : goal.child-seat-requires
 child-seat-requires c =
-    (sitting_turned c.args.words.now c.args.ws.now c.args.locals.now c.args.plan c.args.s c.args.v c.args.top 5 c.requires.0 6 0 _ c.turn.auto.ws (rw c.none.ensures at c.turn.ensures), c.requires.2)
-
-pub tick-requires : goal.tick-requires
-tick-requires c =
-    let b = bounds c.args.words.now c.args.ws.now c.args.locals.now c.args.plan c.args.s c.requires.0.ready in (b.0, b.1, b.2)
+    sitting_turned _ _ _ _ _ _ _ 5 c.requires.0 6 0 _ c.turn.auto.ws (rw c.none.ensures at c.turn.ensures)
 
 pub returns : goal.returns
 returns c =
-    stepped_plain_left c.args.words.now c.args.ws.now c.args.locals.now c.args.plan c.args.s c.args.v c.args.top c.requires.0 c.requires.1 _ _ _ c.turn.auto.ws (rw c.none.ensures at c.turn.ensures) c.child-seat.ensures _ c.oldest_without-oldest.ensures _ c.tick.ensures
+    stepped_plain_left _ _ _ _ _ _ _ c.requires.0 c.requires.1 _ _ _ c.turn.auto.ws (rw c.none.ensures at c.turn.ensures) c.child-seat.ensures _ c.oldest_without-oldest.ensures _ c.tick.ensures

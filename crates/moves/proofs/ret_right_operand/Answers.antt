@@ -1,17 +1,12 @@
 -- `moves::ret_right_operand` meets its contract, by the laws of Returning, Steps, Ticking.
 use Rattle.moves.proofs.Returning.{operand, stepped_resumed}
-use Rattle.moves.proofs.Steps.{bounds}
 use Rattle.moves.proofs.Ticking.{ticks_resumed}
 use Rattle.moves.proofs.ret_right_operand.Goals as goal
 
 pub operated-computed-requires : goal.operated-computed-requires
 operated-computed-requires c =
-    (operand c.args.words.now c.args.ws.now c.args.locals.now c.args.plan c.args.s c.args.v c.args.top c.requires.0, c.requires.2)
-
-pub resumed-requires : goal.resumed-requires
-resumed-requires c =
-    let b = bounds c.args.words.now c.args.ws.now c.args.locals.now c.args.plan c.args.s c.requires.0.ready in (b.0, b.1, b.2)
+    operand _ _ _ _ _ _ _ c.requires.0
 
 pub returns : goal.returns
 returns c =
-    (stepped_resumed c.args.words.now c.args.ws.now c.args.locals.now c.args.plan c.args.s c.args.v c.args.top c.requires.0 c.requires.1 _ c.operated-computed.ensures _ c.resumed.ensures, ticks_resumed c.args.s c.args.top _ _ c.resumed.ensures)
+    (stepped_resumed _ _ _ _ _ _ _ c.requires.0 c.requires.1 _ c.operated-computed.ensures _ c.resumed.ensures, ticks_resumed c.args.s c.args.top _ _ c.resumed.ensures)
