@@ -54,16 +54,16 @@ module _ {w ws ls : List ℕ} {plan : Plan} {g : Compact} {seat : Seat} {start a
   node_is : get_or w at 0 ≡ 5 → node_at w (start_of w seat.function) seat.node
       ≡ Call (get_or w (at + 1) 0) (b_at w (start_of w seat.function) seat.node) (c_at w (start_of w seat.function) seat.node)
   unfolding node_of
-  node_is t = let h = tagged w ws ls plan g seat start at 5 (of_tag 5 t) in rw (site_tag (of_tag 5 t), f_is h refl)
+  node_is t = let h = tagged (of_tag 5 t) in rw (site_tag (of_tag 5 t), f_is h refl)
 
   by_one : {to : Control} {next : Compact} → next ≡ later_of g to g.depth 1 → ((o : Step) → o ≡ transited plan (full g) seat to → Stepped w ws ls plan (full g) ws ls o)
       → Strides w ws ls plan g ws ls (Go next)
   by_one {to} {next} e m =
       let t = later_transits plan g v.calm.starts.paced v.paid seat to (Go next) (ap Go e) in
-      one_strides w ws ls plan g seat start at tag v ws ls (Go next) (m _ t.0) (t.1, t.2)
+      one_strides v ws ls (Go next) (m _ t.0) (t.1, t.2)
 
   pub struck_goes : {ws' ls' : List ℕ} {r : Result Compact ℕ} {next : Compact} → Struck w ws ls g seat at ws' ls' r → r ≡ Ok next → Strides w ws ls plan g ws' ls' (Go next)
-  struck_goes {ls' = ls'} {next = next} (jumps n e i j) u = let x : n ≡ next = cc in rw (i, ← x) (jump_strides w ws ls plan g v.calm.starts seat v.is ls' n j)
+  struck_goes {ls' = ls'} {next = next} (jumps n e i j) u = let x : n ≡ next = cc in rw (i, ← x) (jump_strides v.calm.starts seat v.is ls' n j)
   struck_goes {next = next} (enters t n i k e) u =
       let x : next ≡ later_of g (Eval (get_or w (at + 1) 0) 0 0) g.depth 1 = cc in
       rw (i, k) (by_one x (λ o m. stepped_enter w ws ls plan (full g) v.calm.starts.ready seat.function seat.node seat.count v.is _ _ _ o (node_is t) n m))
@@ -71,7 +71,7 @@ module _ {w ws ls : List ℕ} {plan : Plan} {g : Compact} {seat : Seat} {start a
       let x : next ≡ later_of g (Ret (leaf_at w at ls 0)) g.depth 1 = cc in
       rw (i, k) (by_one x (λ o m. leaf_stepped v (rw v.tagged at low) m))
   struck_goes {ws' = ws'} {next = next} (halves n e k t j) u =
-      let x : n ≡ next = cc in rw (k, ← x) (half_strides w ws ls plan g v.calm.starts seat v.is ws' n (site_tag (of_tag 2 t)) j)
+      let x : n ≡ next = cc in rw (k, ← x) (half_strides v.calm.starts seat v.is ws' n (site_tag (of_tag 2 t)) j)
   struck_goes (opens kind e i k h) u = cc
 
   struck_opens : {ws' ls' : List ℕ} {r : Result Compact ℕ} {kind : ℕ} → Struck w ws ls g seat at ws' ls' r → r ≡ Err kind → (ws' ≡ ws) × (ls' ≡ ls) × Opens w at kind
@@ -84,7 +84,7 @@ module _ {w ws ls : List ℕ} {plan : Plan} {g : Compact} {seat : Seat} {start a
   opens_strides : {kind : ℕ} → Opens w at kind → (ws' : List ℕ) → length ws' ≡ length ws → (r : Progress)
       → Opened ws ws' ls plan (full g) seat kind g.oldest (step_of r) × PacedBy plan r × Transits g r → Strides w ws ls plan g ws' ls r
   unfolding node_of
-  opens_strides h ws' long r u = one_strides w ws ls plan g seat start at tag v ws' ls r (by h u.0) (u.1, u.2)
+  opens_strides h ws' long r u = one_strides v ws' ls r (by h u.0) (u.1, u.2)
     where
       by : {kind : ℕ} → Opens w at kind → Opened ws ws' ls plan (full g) seat kind g.oldest (step_of r) → Stepped w ws ls plan (full g) ws' ls (step_of r)
       by (operand t k) o =

@@ -9,7 +9,6 @@
 
 ghost use Rattle.std.specs.Prelude.{◌≡◌, cond, ◌+◌, ◌*◌, ◌/◌, ◌<◌, ◌≤◌, length, get_or, eqb};
 ghost use Rattle.table.specs.Words.{arity_at};
-ghost use Rattle.table.specs.Read.{starts_of};
 ghost use Rattle.moves.specs.Ready.{Paid, Operand};
 ghost use Rattle.compact.specs.Compact.{full, Small};
 ghost use Rattle.operands.specs.Operands.{cost_at};
@@ -17,7 +16,7 @@ ghost use Rattle.strides.specs.Strides.{Strides, Frees, Awaits, Passes, Ends, St
 
 use compact::{Compact, Event, Pause, Progress};
 use frames::Seat;
-use moves::{Control, Plan, Step, Stopped};
+use moves::{Control, Job, Plan, Step, Stopped};
 use schedule::Span;
 
 // The tags of the nodes that are no constant and no local.
@@ -339,59 +338,50 @@ fn evaluate_both(
 
 // Evaluates a node.
 fn evaluate(
-    words: &[u32],
-    starts: &[usize],
+    job: Job,
     ws: &mut [u64],
     locals: &mut [u64],
     plan: Plan,
     g: Compact,
     seat: Seat,
 ) -> Progress
-    requires { (Calm words.now ws.old locals.old plan g) × (g.control ≡ Control.Eval seat.function seat.node seat.count) × (starts.now ≡ starts_of words.now) × (Paid plan (full g)) }
-    ensures { Passes words.now ws.old locals.old plan g ws.new locals.new result }
+    requires { (Calm job.words.now ws.old locals.old plan g) × (g.control ≡ Control.Eval seat.function seat.node seat.count) × (Paid plan (full g)) }
+    ensures { Passes job.entry.words.now ws.old locals.old plan g ws.new locals.new result }
 {
-    let start = starts[seat.function];
+    let start = job.start(seat.function);
     let at = start + 4 * seat.node;
-    let tag = words[at];
+    let tag = job.words[at];
     if tag == BOTH {
-        return evaluate_both(words, start, at, ws, locals, plan, g, seat);
+        return evaluate_both(job.words, start, at, ws, locals, plan, g, seat);
     }
-    match strike(words, start, at, seat, ws, locals, g, tag) {
+    match strike(job.words, start, at, seat, ws, locals, g, tag) {
         Ok(next) => Progress::Go(next),
         Err(kind) => compact::open(ws, locals, plan, g, seat, kind),
     }
 }
 
 // A value that returns to an arithmetic frame whose right operand is simple.
-fn rebound(
-    words: &[u32],
-    starts: &[usize],
-    ws: &[u64],
-    g: Compact,
-    v: u64,
-    top: usize,
-) -> Option<Compact>
-    requires { (Operand words.now ws.now (32 * top)) × (Small g) × (g.depth ≡ top + 1) × (starts.now ≡ starts_of words.now) }
-    ensures { Rebounds words.now ws.now g v top result }
+fn rebound(job: Job, ws: &[u64], g: Compact, v: u64, top: usize) -> Option<Compact>
+    requires { (Operand job.words.now ws.now (32 * top)) × (Small g) × (g.depth ≡ top + 1) }
+    ensures { Rebounds job.entry.words.now ws.now g v top result }
 {
     let b = frames::WORDS * top;
     let seat = frames::seat_of(ws, b);
-    let start = starts[seat.function];
+    let start = job.start(seat.function);
     let at = start + 4 * seat.node;
-    let right = start + 4 * words[at + 2] as usize;
-    let k = operands::cost(words, right);
+    let right = start + 4 * job.words[at + 2] as usize;
+    let k = operands::cost(job.words, right);
     if !compact::fits(g, k, 2, operands::frames_of(k)) {
         return None;
     }
-    let y = operands::simple(words, right, ws, b + frames::LOCALS).ok()?;
-    let z = operands::operate(words[at + 1], v, y).ok()?;
+    let y = operands::simple(job.words, right, ws, b + frames::LOCALS).ok()?;
+    let z = operands::operate(job.words[at + 1], v, y).ok()?;
     Some(compact::later(g, Control::Ret(z), top, k + 2))
 }
 
 // A left operand.
 fn ret_left(
-    words: &[u32],
-    starts: &[usize],
+    job: Job,
     ws: &mut [u64],
     locals: &mut [u64],
     plan: Plan,
@@ -399,20 +389,19 @@ fn ret_left(
     v: u64,
     top: usize,
 ) -> Progress
-    requires { (Returning words.now ws.old locals.old plan g v top 0) × (Paid plan (full g)) × (starts.now ≡ starts_of words.now) }
-    ensures { Strides words.now ws.old locals.old plan g ws.new locals.new result }
+    requires { (Returning job.words.now ws.old locals.old plan g v top 0) × (Paid plan (full g)) }
+    ensures { Strides job.entry.words.now ws.old locals.old plan g ws.new locals.new result }
 {
-    if let Some(next) = rebound(words, starts, ws, g, v, top) {
+    if let Some(next) = rebound(job, ws, g, v, top) {
         return Progress::Go(next);
     }
-    let step = moves::ret_left_operand(words, starts, ws, locals, plan, compact::expand(g), v, top);
+    let step = moves::ret_left_operand(job, ws, locals, plan, compact::expand(g), v, top);
     compact::keep(g, step)
 }
 
 // A value returns by a transition, to a frame that is not promoted.
 fn ret_paid(
-    words: &[u32],
-    starts: &[usize],
+    job: Job,
     ws: &mut [u64],
     locals: &mut [u64],
     plan: Plan,
@@ -421,51 +410,34 @@ fn ret_paid(
     top: usize,
     kind: u64,
 ) -> Progress
-    requires { (Returning words.now ws.old locals.old plan g v top kind) × (kind < 7) × (Paid plan (full g)) × (starts.now ≡ starts_of words.now) }
-    ensures { Strides words.now ws.old locals.old plan g ws.new locals.new result }
+    requires { (Returning job.words.now ws.old locals.old plan g v top kind) × (kind < 7) × (Paid plan (full g)) }
+    ensures { Strides job.entry.words.now ws.old locals.old plan g ws.new locals.new result }
 {
     let s = compact::expand(g);
     match kind {
-        moves::LEFT_OPERAND => ret_left(words, starts, ws, locals, plan, g, v, top),
+        moves::LEFT_OPERAND => ret_left(job, ws, locals, plan, g, v, top),
         moves::RIGHT_OPERAND => compact::keep(
             g,
-            moves::ret_right_operand(words, starts, ws, locals, plan, s, v, top),
+            moves::ret_right_operand(job, ws, locals, plan, s, v, top),
         ),
         moves::CONDITION => compact::keep(
             g,
-            moves::ret_condition(words, starts, ws, locals, plan, s, v, top),
+            moves::ret_condition(job, ws, locals, plan, s, v, top),
         ),
-        moves::BINDING => compact::keep(
-            g,
-            moves::ret_binding(words, starts, ws, locals, plan, s, v, top),
-        ),
-        moves::ARGUMENT => compact::keep(
-            g,
-            moves::ret_argument(words, starts, ws, locals, plan, s, v, top),
-        ),
+        moves::BINDING => compact::keep(g, moves::ret_binding(job, ws, locals, plan, s, v, top)),
+        moves::ARGUMENT => compact::keep(g, moves::ret_argument(job, ws, locals, plan, s, v, top)),
         moves::PLAIN_LEFT => compact::settle(
             plan,
-            moves::ret_plain_left(words, starts, ws, locals, plan, s, v, top),
+            moves::ret_plain_left(job, ws, locals, plan, s, v, top),
         ),
-        _ => compact::keep(
-            g,
-            moves::ret_plain_right(words, starts, ws, locals, plan, s, v, top),
-        ),
+        _ => compact::keep(g, moves::ret_plain_right(job, ws, locals, plan, s, v, top)),
     }
 }
 
 // A value returns to the newest frame, or ends the run. At a promoted fork it arrives with no transition.
-fn ret(
-    words: &[u32],
-    starts: &[usize],
-    ws: &mut [u64],
-    locals: &mut [u64],
-    plan: Plan,
-    g: Compact,
-    v: u64,
-) -> Progress
-    requires { (Calm words.now ws.old locals.old plan g) × (g.control ≡ Control.Ret v) × (starts.now ≡ starts_of words.now) × (Paid plan (full g)) }
-    ensures { Passes words.now ws.old locals.old plan g ws.new locals.new result }
+fn ret(job: Job, ws: &mut [u64], locals: &mut [u64], plan: Plan, g: Compact, v: u64) -> Progress
+    requires { (Calm job.words.now ws.old locals.old plan g) × (g.control ≡ Control.Ret v) × (Paid plan (full g)) }
+    ensures { Passes job.entry.words.now ws.old locals.old plan g ws.new locals.new result }
 {
     if g.depth == 0 {
         return Progress::Value(v);
@@ -473,7 +445,7 @@ fn ret(
     let top = g.depth - 1;
     let kind = moves::kind_at(ws, top);
     if kind < moves::PROMOTED_LEFT {
-        ret_paid(words, starts, ws, locals, plan, g, v, top, kind)
+        ret_paid(job, ws, locals, plan, g, v, top, kind)
     } else if kind == moves::PROMOTED_LEFT {
         Progress::Paused(Pause::Turn(v, top))
     } else {
@@ -482,16 +454,9 @@ fn ret(
 }
 
 // One step that is a transition, or several at once; a pause where the limit is reached or the next move is free.
-pub fn stride(
-    words: &[u32],
-    starts: &[usize],
-    ws: &mut [u64],
-    locals: &mut [u64],
-    plan: Plan,
-    g: Compact,
-) -> Progress
-    requires { (Starts words.now ws.old locals.old plan g) × (starts.now ≡ starts_of words.now) }
-    ensures { Passes words.now ws.old locals.old plan g ws.new locals.new result }
+pub fn stride(job: Job, ws: &mut [u64], locals: &mut [u64], plan: Plan, g: Compact) -> Progress
+    requires { Starts job.words.now ws.old locals.old plan g }
+    ensures { Passes job.entry.words.now ws.old locals.old plan g ws.new locals.new result }
 {
     if g.limit <= g.transitions {
         return Progress::Paused(Pause::Limit);
@@ -503,9 +468,9 @@ pub fn stride(
                 node,
                 count,
             };
-            evaluate(words, starts, ws, locals, plan, g, seat)
+            evaluate(job, ws, locals, plan, g, seat)
         }
-        Control::Ret(v) => ret(words, starts, ws, locals, plan, g, v),
+        Control::Ret(v) => ret(job, ws, locals, plan, g, v),
     }
 }
 
@@ -557,8 +522,7 @@ pub fn crowded(
 
 // A left value arrives at a promoted fork.
 pub fn turn(
-    words: &[u32],
-    starts: &[usize],
+    job: Job,
     ws: &mut [u64],
     locals: &mut [u64],
     plan: Plan,
@@ -566,18 +530,17 @@ pub fn turn(
     v: u64,
     top: usize,
 ) -> Progress
-    requires { (Awaits words.now ws.old locals.old plan g (Pause.Turn v top)) × (starts.now ≡ starts_of words.now) }
-    ensures { Frees words.now ws.old locals.old plan g (Event.Turn top) ws.new locals.new result }
+    requires { Awaits job.words.now ws.old locals.old plan g (Pause.Turn v top) }
+    ensures { Frees job.entry.words.now ws.old locals.old plan g (Event.Turn top) ws.new locals.new result }
 {
-    let step = moves::turned(words, starts, ws, locals, plan, compact::expand(g), v, top);
+    let step = moves::turned(job, ws, locals, plan, compact::expand(g), v, top);
     let next = compact::restart(plan, step);
     compact::free(next, Event::Turn(top))
 }
 
 // A right value arrives there.
 pub fn join(
-    words: &[u32],
-    starts: &[usize],
+    job: Job,
     ws: &[u64],
     locals: &mut [u64],
     plan: Plan,
@@ -586,20 +549,10 @@ pub fn join(
     top: usize,
     kind: u64,
 ) -> Progress
-    requires { (Awaits words.now ws.now locals.old plan g (Pause.Join v top kind)) × (starts.now ≡ starts_of words.now) }
-    ensures { Frees words.now ws.now locals.old plan g (Event.Join top) ws.now locals.new result }
+    requires { Awaits job.words.now ws.now locals.old plan g (Pause.Join v top kind) }
+    ensures { Frees job.entry.words.now ws.now locals.old plan g (Event.Join top) ws.now locals.new result }
 {
-    let step = moves::joined(
-        words,
-        starts,
-        ws,
-        locals,
-        plan,
-        compact::expand(g),
-        v,
-        top,
-        kind,
-    );
+    let step = moves::joined(job, ws, locals, plan, compact::expand(g), v, top, kind);
     let next = compact::restart(plan, step);
     compact::free(next, Event::Join(top))
 }
@@ -616,20 +569,12 @@ fn spent(seat: Seat) -> Progress
 }
 
 // A node is evaluated with the fuel spent: only a fork that is promoted at its birth can go on.
-fn spent_node(
-    words: &[u32],
-    starts: &[usize],
-    ws: &[u64],
-    locals: &[u64],
-    plan: Plan,
-    g: Compact,
-    seat: Seat,
-) -> Progress
-    requires { (Calm words.now ws.now locals.now plan g) × (g.control ≡ Control.Eval seat.function seat.node seat.count) × (starts.now ≡ starts_of words.now) × (plan.fuel.0 ≤ g.transitions) }
-    ensures { Ends words.now ws.now locals.now plan g result }
+fn spent_node(job: Job, ws: &[u64], locals: &[u64], plan: Plan, g: Compact, seat: Seat) -> Progress
+    requires { (Calm job.words.now ws.now locals.now plan g) × (g.control ≡ Control.Eval seat.function seat.node seat.count) × (plan.fuel.0 ≤ g.transitions) }
+    ensures { Ends job.entry.words.now ws.now locals.now plan g result }
 {
-    let start = starts[seat.function];
-    let tag = words[start + 4 * seat.node];
+    let start = job.start(seat.function);
+    let tag = job.words[start + 4 * seat.node];
     if tag == BOTH && plan.birth {
         Progress::Paused(Pause::Fork(seat))
     } else {
@@ -664,16 +609,9 @@ fn spent_value(
 }
 
 // At the limit: a promotion that is due, or what comes where the fuel is spent.
-pub fn at_limit(
-    words: &[u32],
-    starts: &[usize],
-    ws: &[u64],
-    locals: &[u64],
-    plan: Plan,
-    g: Compact,
-) -> Progress
-    requires { (Starts words.now ws.now locals.now plan g) × (starts.now ≡ starts_of words.now) × (g.limit ≤ g.transitions) }
-    ensures { Ends words.now ws.now locals.now plan g result }
+pub fn at_limit(job: Job, ws: &[u64], locals: &[u64], plan: Plan, g: Compact) -> Progress
+    requires { (Starts job.words.now ws.now locals.now plan g) × (g.limit ≤ g.transitions) }
+    ensures { Ends job.entry.words.now ws.now locals.now plan g result }
 {
     if compact::due(plan, g) {
         return Progress::Paused(Pause::Promotion);
@@ -685,8 +623,8 @@ pub fn at_limit(
                 node,
                 count,
             };
-            spent_node(words, starts, ws, locals, plan, g, seat)
+            spent_node(job, ws, locals, plan, g, seat)
         }
-        Control::Ret(v) => spent_value(words, ws, locals, plan, g, v),
+        Control::Ret(v) => spent_value(job.words, ws, locals, plan, g, v),
     }
 }

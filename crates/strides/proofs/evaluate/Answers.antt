@@ -2,58 +2,39 @@
 use mathlib.Core.Path.{refl}
 use native.Mathlib.Omega.{arith}
 use Rattle.strides.specs.Strides.{made}
-use Rattle.strides.proofs.Striding.{function_few, starts_inside, word_inside, node_few, evaluating, tagged, tag_few}
+use Rattle.strides.proofs.Striding.{start_asked, word_inside, evaluating, tagged, tag_few}
 use Rattle.strides.proofs.Striking.{struck_goes, struck_framed, struck_opened}
 use Rattle.strides.proofs.evaluate.Goals as goal
 
-pub offset_bounds-starts-seat : goal.offset_bounds-starts-seat
-offset_bounds-starts-seat c =
-    omega (arith, function_few c.args.words.now c.args.ws.now c.args.locals.now c.args.plan c.args.g c.requires.0 c.args.seat c.requires.1 _ c.requires.2)
-
-pub bounds-starts-seat : goal.bounds-starts-seat
-bounds-starts-seat c =
-    starts_inside c.args.words.now c.args.ws.now c.args.locals.now c.args.plan c.args.g c.requires.0 c.args.seat c.requires.1 _ c.requires.2
+pub start-start-requires : goal.start-start-requires
+start-start-requires c = start_asked c.requires.0 c.requires.1
 
 pub overflow_mul-at : goal.overflow_mul-at
-overflow_mul-at c =
-    omega (arith, node_few c.args.words.now c.args.ws.now c.args.locals.now c.args.plan c.args.g c.requires.0 c.args.seat c.requires.1 _ c.requires.2)
+overflow_mul-at c = omega (arith, word_inside c.requires.0 c.requires.1 c.start-start.ensures)
 
 pub overflow_add-at : goal.overflow_add-at
-overflow_add-at c =
-    omega (arith, word_inside c.args.words.now c.args.ws.now c.args.locals.now c.args.plan c.args.g c.requires.0 c.args.seat c.requires.1 _ c.requires.2)
+overflow_add-at c = omega (arith, word_inside c.requires.0 c.requires.1 c.start-start.ensures)
 
-pub offset_bounds-words-at : goal.offset_bounds-words-at
-offset_bounds-words-at c =
-    omega (arith, word_inside c.args.words.now c.args.ws.now c.args.locals.now c.args.plan c.args.g c.requires.0 c.args.seat c.requires.1 _ c.requires.2)
+pub offset_bounds-job-at : goal.offset_bounds-job-at
+offset_bounds-job-at c = omega (arith, word_inside c.requires.0 c.requires.1 c.start-start.ensures)
 
-pub bounds-words-at : goal.bounds-words-at
-bounds-words-at c =
-    omega (arith, word_inside c.args.words.now c.args.ws.now c.args.locals.now c.args.plan c.args.g c.requires.0 c.args.seat c.requires.1 _ c.requires.2)
+pub bounds-job-at : goal.bounds-job-at
+bounds-job-at c = omega (arith, word_inside c.requires.0 c.requires.1 c.start-start.ensures)
 
 pub evaluate_both-requires : goal.evaluate_both-requires
-evaluate_both-requires c =
-    evaluating c.args.words.now c.args.ws.now c.args.locals.now c.args.plan c.args.g c.requires.0 c.args.seat c.requires.1 _ c.requires.2 c.requires.3 6 c.if-tag-eq-BOTH.true
+evaluate_both-requires c = evaluating c.requires.0 c.requires.1 c.start-start.ensures c.requires.2 c.if-tag-eq-BOTH.true
 
 pub strike-requires : goal.strike-requires
 strike-requires c =
-    let v = evaluating c.args.words.now c.args.ws.now c.args.locals.now c.args.plan c.args.g c.requires.0 c.args.seat c.requires.1 _ c.requires.2 c.requires.3 _ refl in (
-      tagged c.args.words.now c.args.ws.now c.args.locals.now c.args.plan c.args.g c.args.seat _ _ _ v,
-      omega (arith, c.if-tag-eq-BOTH.false, tag_few c.args.words.now c.args.ws.now c.args.locals.now c.args.plan c.args.g c.requires.0 c.args.seat c.requires.1 _ c.requires.2),
-      v.calm.starts.ready.limits.frames,
-      v.calm.starts.ready.bounded.depth,
-    )
+    let v = evaluating c.requires.0 c.requires.1 c.start-start.ensures c.requires.2 refl in
+    (tagged v, omega (arith, c.if-tag-eq-BOTH.false, tag_few c.requires.0 c.requires.1 c.start-start.ensures), v.calm.starts.ready.limits.frames, v.calm.starts.ready.bounded.depth)
 
 pub open-requires : goal.open-requires
-open-requires c =
-    let v = evaluating c.args.words.now c.args.ws.now c.args.locals.now c.args.plan c.args.g c.requires.0 c.args.seat c.requires.1 _ c.requires.2 c.requires.3 _ refl in
-    struck_framed v c.strike.ensures c.in-Err.is
+open-requires c = struck_framed (evaluating c.requires.0 c.requires.1 c.start-start.ensures c.requires.2 refl) c.strike.ensures c.in-Err.is
 
 pub returns-in-Ok : goal.returns-in-Ok
-returns-in-Ok c =
-    let v = evaluating c.args.words.now c.args.ws.now c.args.locals.now c.args.plan c.args.g c.requires.0 c.args.seat c.requires.1 _ c.requires.2 c.requires.3 _ refl in
-    made (struck_goes v c.strike.ensures c.in-Ok.is)
+returns-in-Ok c = made (struck_goes (evaluating c.requires.0 c.requires.1 c.start-start.ensures c.requires.2 refl) c.strike.ensures c.in-Ok.is)
 
 pub returns-in-Err : goal.returns-in-Err
 returns-in-Err c =
-    let v = evaluating c.args.words.now c.args.ws.now c.args.locals.now c.args.plan c.args.g c.requires.0 c.args.seat c.requires.1 _ c.requires.2 c.requires.3 _ refl in
-    made (struck_opened v c.strike.ensures c.in-Err.is c.open.auto.ws c.open.ensures)
+    made (struck_opened (evaluating c.requires.0 c.requires.1 c.start-start.ensures c.requires.2 refl) c.strike.ensures c.in-Err.is c.open.auto.ws c.open.ensures)
