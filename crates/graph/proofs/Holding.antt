@@ -13,9 +13,8 @@ use native.Mathlib.Omega.{arith}
 use native.Mathlib.Decide.{ℕ_discrete}
 use lib.Dec.{leb}
 use borrow.Author.Tests.{le-leb, lt-leb, leb-false}
-use lib.ListN.{length, get_or, take, set, replicate, length-append, length-set, get_or-append}
-use lib.Seq.{drop-length, set_at, get_or-set_same, get_or-set_other, get_or-append_seam, get_or-take, length-take-le, ext_get_or}
-use borrow.Rule.Slice.PartMut.{mid_of, post_of, put_mid, Post-is, mid_len}
+use lib.ListN.{length, get_or, take, set, length-append, length-set, get_or-append}
+use lib.Seq.{set_at, get_or-set_same, get_or-set_other, get_or-append_seam, get_or-take, length-take-le, ext_get_or}
 use Rattle.graph.specs.Words.{stretch, head}
 use Rattle.graph.specs.Writing.{Holds, count_ended, stretched, within}
 
@@ -162,12 +161,3 @@ pub stretched_some : (lent : List ℕ) (n k : ℕ) → 0 < k → set (set lent n
 unfolding stretched
 stretched_some lent n zero h = absurd (omega arith)
 stretched_some lent n (suc k) h = refl
-
--- THE REST OF A BUFFER, set to 0.
-pub rest_cleared : (xs ys : List ℕ) (a : ℕ) → a ≤ length xs → ys ≡ replicate (length (mid_of a (length xs - a) xs)) 0
-    → put_mid a (length xs - a) xs ys ≡ take a xs ++ replicate (length xs - a) 0
-rest_cleared xs ys a h e =
-    let n = mid_len a (length xs) xs (omega arith) in
-    let none : post_of a (length xs - a) xs ≡ [] = Post-is a (length xs) xs h ∙ drop-length xs in
-    ap (λ (l : List ℕ). take a xs ++ l)
-    (ap (λ (l : List ℕ). ys ++ l) none ∙ append-nil ys ∙ e ∙ ap (λ (m : ℕ). replicate m 0) n)

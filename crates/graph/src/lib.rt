@@ -10,78 +10,80 @@ ghost use Rattle.std.specs.Prelude.{◌≡◌, ◌++◌, ◌+◌, ◌-◌, ◌�
 ghost use Rattle.graph.specs.Writing.{count_ended, stretched, lent_ended, lent_forked, lent_filled};
 
 // The first word of a stretch, and of a fork.
+// Kept: what may not change, the words of 02's format (specs/Words.antt, `stretch` and `head`). They are written alone, and never matched on.
 const STRETCH: u32 = 0;
 
 const FORK: u32 = 1;
 
-// The number of words with the stretch. A stretch of none is no word.
-fn ended(n: usize, k: u64) -> usize
-    requires { n < 2 ^ 60 }
-    ensures { result ≡ count_ended n k }
-{
-    if k == 0 { n } else { n + 2 }
+// The words of a graph so far, and the transitions of the stretch after them, which is not written yet. A run makes few of both.
+#[derive(Clone, Copy)]
+pub struct Written {
+    pub words: usize,
+    pub pending: u64,
+    pub ghost few: { (words < 2 ^ 60) × (pending < 2 ^ 32) },
 }
 
-// Writes the stretch, which fits.
-fn stretch(graph: &mut [u32], n: usize, k: u64)
-    requires { (k < 2 ^ 32) × (count_ended n k ≤ length graph.old) }
-    ensures { graph.new ≡ stretched graph.old n k }
-{
-    if 0 < k {
-        graph[n] = STRETCH;
-        graph[n + 1] = k as u32;
+impl Written {
+    // The number of words with the stretch. A stretch of none is no word.
+    fn ended(self) -> usize
+        ensures { result ≡ count_ended self.words self.pending }
+    {
+        if self.pending == 0 {
+            self.words
+        } else {
+            self.words + 2
+        }
     }
-}
 
-// Ends the stretch: the number of words with it.
-pub fn end_stretch(graph: &mut [u32], n: usize, k: u64) -> usize
-    requires { (n < 2 ^ 60) × (k < 2 ^ 32) }
-    ensures { (result ≡ count_ended n k) × (graph.new ≡ lent_ended graph.old n k) }
-{
-    let end = ended(n, k);
-    if end <= graph.len() {
-        stretch(graph, n, k);
+    // Writes the stretch, which fits.
+    fn stretch(self, graph: &mut [u32])
+        requires { count_ended self.words self.pending ≤ length graph.old }
+        ensures { graph.new ≡ stretched graph.old self.words self.pending }
+    {
+        let n = self.words;
+        if 0 < self.pending {
+            graph[n] = STRETCH;
+            graph[n + 1] = self.pending as u32;
+        }
     }
-    end
-}
 
-// Begins a fork: its place, where its three words stand, with lengths that are not known yet.
-pub fn fork(graph: &mut [u32], n: usize, k: u64) -> usize
-    requires { (n < 2 ^ 60) × (k < 2 ^ 32) }
-    ensures { (result ≡ count_ended n k) × (graph.new ≡ lent_forked graph.old n k) }
-{
-    let place = ended(n, k);
-    if place + 3 <= graph.len() {
-        stretch(graph, n, k);
-        graph[place] = FORK;
-        graph[place + 1] = 0;
-        graph[place + 2] = 0;
+    // Ends the stretch: the number of words with it.
+    pub fn end_stretch(self, graph: &mut [u32]) -> usize
+        ensures { (result ≡ count_ended self.words self.pending) × (graph.new ≡ lent_ended graph.old self.words self.pending) }
+    {
+        let words = self.ended();
+        if words <= graph.len() {
+            self.stretch(graph);
+        }
+        words
     }
-    place
-}
 
-// Ends the left or the right graph of a fork, which began at `from`: its length is filled in at `at`. The number of words with it.
-pub fn end_branch(graph: &mut [u32], n: usize, k: u64, at: usize, from: usize) -> usize
-    requires { (n < 2 ^ 60) × (k < 2 ^ 32) × (at < from) × (from ≤ count_ended n k) × (count_ended n k < 2 ^ 32) }
-    ensures { (result ≡ count_ended n k) × (graph.new ≡ lent_filled graph.old n k at from) }
-{
-    let end = ended(n, k);
-    if end <= graph.len() {
-        stretch(graph, n, k);
-        let length = end - from;
-        graph[at] = length as u32;
+    // Begins a fork: its place, where its three words stand, with lengths that are not known yet.
+    pub fn fork(self, graph: &mut [u32]) -> usize
+        ensures { (result ≡ count_ended self.words self.pending) × (graph.new ≡ lent_forked graph.old self.words self.pending) }
+    {
+        let place = self.ended();
+        if place + 3 <= graph.len() {
+            self.stretch(graph);
+            graph[place] = FORK;
+            graph[place + 1] = 0;
+            graph[place + 2] = 0;
+        }
+        place
     }
-    end
-}
 
-// Sets every word to 0.
-fn zero(graph: &mut [u32])
-    ensures { graph.new ≡ replicate (length graph.old) 0 }
-{
-    let mut i = 0;
-    while i < graph.len() {
-        graph[i] = 0;
-        i += 1;
+    // Ends the left or the right graph of a fork, which began at `from`: its length is filled in at `at`. The number of words with it.
+    pub fn end_branch(self, graph: &mut [u32], at: usize, from: usize) -> usize
+        requires { (at < from) × (from ≤ count_ended self.words self.pending) × (count_ended self.words self.pending < 2 ^ 32) }
+        ensures { (result ≡ count_ended self.words self.pending) × (graph.new ≡ lent_filled graph.old self.words self.pending at from) }
+    {
+        let end = self.ended();
+        if end <= graph.len() {
+            self.stretch(graph);
+            let length = end - from;
+            graph[at] = length as u32;
+        }
+        end
     }
 }
 
@@ -90,5 +92,5 @@ pub fn clear(graph: &mut [u32], from: usize)
     requires { from ≤ length graph.old }
     ensures { graph.new ≡ take from graph.old ++ replicate (length graph.old - from) 0 }
 {
-    zero(&mut graph[from..]);
+    graph[from..].fill(0);
 }

@@ -1,16 +1,14 @@
 -- A text after a text is their one text.
 --     then     a text, and one from its end on
 --     same     the buffer's length stays
---     copied   what was copied is written
 --     of_equal   a text of a number is that of an equal one
 -- Assumes nothing.
-use Prim.Native.Nat.{ℕ, ◌+◌, ◌-◌, ◌≤◌}
-use mathlib.Core.Path.{◌≡◌, refl, sym, ap, subst, ◌∙◌}
+use Prim.Native.Nat.{ℕ, ◌+◌, ◌≤◌}
+use mathlib.Core.Path.{◌≡◌, sym, ap, subst, ◌∙◌}
 use mathlib.Core.List.{List, ◌++◌, append_assoc}
 use native.Mathlib.Omega.{arith}
 use lib.ListN.{length, take, drop, length-append, length-drop}
 use lib.Seq.{take_at, drop-append-add, drop-drop, length-take-le}
-use borrow.Rule.Slice.PartMut.{put_mid}
 use Rattle.lines.specs.Buffer.{Wrote}
 
 module _ {d : List ℕ} {at : ℕ} {text d₁ : List ℕ} {r : ℕ} (h : Wrote d at text d₁ r) where
@@ -44,17 +42,6 @@ module _ {d : List ℕ} {at : ℕ} {text d₁ : List ℕ} {r : ℕ} (h : Wrote d
         ∙ append_assoc (take at d) text (more ++ drop e d)
         ∙ ap (λ (x : List ℕ). take at d ++ x) (sym (append_assoc text more (drop e d)));
   }
-
--- a text that is written over as many bytes from `at` on
-pub copied : (d : List ℕ) (at : ℕ) (text part : List ℕ) → at + length text ≤ length d → part ≡ text
-    → Wrote d at text (put_mid at (at + length text - at) d part) (at + length text)
-copied d at text part l h =
-    let k : at + (at + length text - at) ≡ at + length text = omega arith in
-    record {
-      ends = refl;
-      fits = l;
-      content = rw (h, drop-drop (at + length text - at) at d, k);
-    }
 
 -- a text, and from its end on one that is told in other words
 pub then_as : {d : List ℕ} {at : ℕ} {text d₁ : List ℕ} {r : ℕ} {more d₂ : List ℕ} {e : ℕ} (told : List ℕ)

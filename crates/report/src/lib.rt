@@ -22,27 +22,12 @@ const MOST: usize = 65536;
 // Room for any report.
 const ROOM: usize = 512;
 
-fn byte(x: u8) -> u32
-    ensures { (result ≡ x) × (result < 256) }
-{
-    x as u32
-}
-
-fn wide(x: u32) -> u64
-    ensures { (result ≡ x) × (result < 4294967296) }
-{
-    x as u64
-}
-
 // The word at a byte of the input, low byte first.
 fn word(input: &[u8], at: usize) -> u32
     requires { at + 4 ≤ length input.now }
     ensures { result ≡ word_of (get_or input.now at 0) (get_or input.now (at + 1) 0) (get_or input.now (at + 2) 0) (get_or input.now (at + 3) 0) }
 {
-    byte(input[at])
-        + 256 * byte(input[at + 1])
-        + 65536 * byte(input[at + 2])
-        + 16777216 * byte(input[at + 3])
+    u32::from_le_bytes([input[at], input[at + 1], input[at + 2], input[at + 3]])
 }
 
 // The first n words of the input.
@@ -50,10 +35,8 @@ fn unpack(input: &[u8], words: &mut [u32], n: usize)
     requires { (4 * n ≤ length input.now) × (n ≤ length words.old) }
     ensures { words.new ≡ paste words.old 0 (words_of input.now) n }
 {
-    let mut i = 0;
-    while i < n {
+    for i in 0..n {
         words[i] = word(input, 4 * i);
-        i += 1;
     }
 }
 
@@ -61,7 +44,7 @@ fn unpack(input: &[u8], words: &mut [u32], n: usize)
 fn pair(low: u32, high: u32) -> u64
     ensures { result ≡ low + 4294967296 * high }
 {
-    wide(low) + 4294967296 * wide(high)
+    u64::from(low) + 4294967296 * u64::from(high)
 }
 
 // The first `count` arguments, each as low then high word, after the first four words.
@@ -69,10 +52,8 @@ fn load(words: &[u32], arguments: &mut [u64], count: usize)
     requires { (4 + 2 * count ≤ length words.now) × (count ≤ length arguments.old) }
     ensures { arguments.new ≡ paste arguments.old 0 (pairs_of count (drop 4 words.now)) count }
 {
-    let mut i = 0;
-    while i < count {
+    for i in 0..count {
         arguments[i] = pair(words[4 + 2 * i], words[5 + 2 * i]);
-        i += 1;
     }
 }
 
@@ -80,7 +61,7 @@ fn load(words: &[u32], arguments: &mut [u64], count: usize)
 fn or_house(given: u32, house: u64) -> u64
     ensures { result ≡ or_house given house }
 {
-    if given == 0 { house } else { wide(given) }
+    if given == 0 { house } else { u64::from(given) }
 }
 
 // The settings that the first three words give: N by default follows the τ in use.
@@ -108,7 +89,7 @@ fn has_job(words: &[u32]) -> bool
     if 3 < words[3] {
         return false;
     }
-    4 + 2 * wide(words[3]) <= words.len() as u64
+    4 + 2 * u64::from(words[3]) <= words.len() as u64
 }
 
 // 01: `refused 1 function 0 node 0`, of an input that has no job.

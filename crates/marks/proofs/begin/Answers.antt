@@ -3,15 +3,8 @@ use Rattle.marks.specs.Marks.{Framed, places_marked, graph_marked, count_marked}
 use Rattle.graph.proofs.Holding.{counted_few}
 use native.Mathlib.Omega.{arith}
 use Prim.Native.Nat.{ℕ, ◌+◌}
-use mathlib.Core.Path.{refl, ap}
+use mathlib.Core.Path.{ap}
 use Rattle.marks.proofs.begin.Goals as goal
-
-pub returns-then-graph-eq0 : goal.returns-then-graph-eq0
-returns-then-graph-eq0 c = record { none = λ h. (refl, refl, refl); some = λ h. absurd (omega arith) }
-
-pub fork-place-requires : goal.fork-place-requires
-fork-place-requires c =
-    let m = c.requires (omega (arith, c.if-graph-eq0.false)) in omega (arith, m.small.words, m.small.pending)
 
 pub overflow_mul-at : goal.overflow_mul-at
 unfolding Framed
@@ -23,7 +16,7 @@ keep_place-requires c = let m = c.requires (omega (arith, c.if-graph-eq0.false))
 
 pub overflow_add-result : goal.overflow_add-result
 overflow_add-result c =
-    let m = c.requires (omega (arith, c.if-graph-eq0.false)) in let few = counted_few c.args.n c.args.made in
+    let m = c.requires (omega (arith, c.if-graph-eq0.false)) in let few = counted_few c.args.words c.args.pending in
     omega (arith, c.fork-place.ensures.0, m.small.words)
 
 pub returns : goal.returns

@@ -5,9 +5,6 @@ use native.Mathlib.Omega.{arith}
 use mathlib.Core.Path.{refl}
 use Rattle.marks.proofs.join.Goals as goal
 
-pub returns-then-graph-eq0 : goal.returns-then-graph-eq0
-returns-then-graph-eq0 c = record { none = λ h. (refl, refl, refl); some = λ h. absurd (omega arith) }
-
 pub overflow_mul-b : goal.overflow_mul-b
 unfolding Framed
 overflow_mul-b c = let m = c.requires (omega (arith, c.if-graph-eq0.false)) in omega (arith, m.framed.0)
@@ -19,7 +16,7 @@ place_of-place-requires c = let m = c.requires (omega (arith, c.if-graph-eq0.fal
 pub overflow_add-place : goal.overflow_add-place
 unfolding Framed
 overflow_add-place c =
-    let m = c.requires (omega (arith, c.if-graph-eq0.false)) in let few = counted_few c.args.n c.args.made in omega (arith, c.place_of-place.ensures, m.small.words, m.framed.1, m.framed.2)
+    let m = c.requires (omega (arith, c.if-graph-eq0.false)) in let few = counted_few c.args.words c.args.pending in omega (arith, c.place_of-place.ensures, m.small.words, m.framed.1, m.framed.2)
 
 pub right_of-requires : goal.right_of-requires
 unfolding Framed
@@ -28,7 +25,7 @@ right_of-requires c = let m = c.requires (omega (arith, c.if-graph-eq0.false)) i
 pub end_branch-requires : goal.end_branch-requires
 unfolding Framed
 end_branch-requires c =
-    let m = c.requires (omega (arith, c.if-graph-eq0.false)) in let few = counted_few c.args.n c.args.made in
+    let m = c.requires (omega (arith, c.if-graph-eq0.false)) in let few = counted_few c.args.words c.args.pending in
     omega (arith, c.right_of.ensures, c.place_of-place.ensures, m.small.words, m.small.pending, m.framed.1, m.framed.2)
 
 pub returns : goal.returns

@@ -2,11 +2,7 @@
 use Rattle.marks.specs.Marks.{Framed, places_marked, graph_marked, count_marked}
 use Rattle.graph.proofs.Holding.{counted_few}
 use native.Mathlib.Omega.{arith}
-use mathlib.Core.Path.{refl}
 use Rattle.marks.proofs.turn.Goals as goal
-
-pub returns-then-graph-eq0 : goal.returns-then-graph-eq0
-returns-then-graph-eq0 c = record { none = λ h. (refl, refl, refl); some = λ h. absurd (omega arith) }
 
 pub overflow_mul-b : goal.overflow_mul-b
 unfolding Framed
@@ -19,17 +15,17 @@ place_of-place-requires c = let m = c.requires (omega (arith, c.if-graph-eq0.fal
 pub overflow_add-place : goal.overflow_add-place
 unfolding Framed
 overflow_add-place c =
-    let m = c.requires (omega (arith, c.if-graph-eq0.false)) in let few = counted_few c.args.n c.args.made in omega (arith, c.place_of-place.ensures, m.small.words, m.framed.1)
+    let m = c.requires (omega (arith, c.if-graph-eq0.false)) in let few = counted_few c.args.words c.args.pending in omega (arith, c.place_of-place.ensures, m.small.words, m.framed.1)
 
 pub overflow_add-place-2 : goal.overflow_add-place-2
 unfolding Framed
 overflow_add-place-2 c =
-    let m = c.requires (omega (arith, c.if-graph-eq0.false)) in let few = counted_few c.args.n c.args.made in omega (arith, c.place_of-place.ensures, m.small.words, m.framed.1)
+    let m = c.requires (omega (arith, c.if-graph-eq0.false)) in let few = counted_few c.args.words c.args.pending in omega (arith, c.place_of-place.ensures, m.small.words, m.framed.1)
 
 pub end_branch-end-requires : goal.end_branch-end-requires
 unfolding Framed
 end_branch-end-requires c =
-    let m = c.requires (omega (arith, c.if-graph-eq0.false)) in let few = counted_few c.args.n c.args.made in
+    let m = c.requires (omega (arith, c.if-graph-eq0.false)) in let few = counted_few c.args.words c.args.pending in
     omega (arith, c.place_of-place.ensures, m.small.words, m.small.pending, m.framed.1)
 
 pub keep_right-requires : goal.keep_right-requires

@@ -13,4 +13,4 @@ returns-then-words-gt3 c = rw (le-leb _ _ c.if-words-lt4.false, lt-leb _ _ c.if-
 
 pub returns : goal.returns
 unfolding complete
-returns c = rw (le-leb _ _ c.if-words-lt4.false, le-leb _ _ c.if-words-gt3.false, ← c.wide.ensures.0)
+returns c = rw (le-leb _ _ c.if-words-lt4.false, le-leb _ _ c.if-words-gt3.false, ← c.from.ensures)

@@ -10,4 +10,4 @@ returns-then-given-eq0 c = rw (eq-eqb c.args.given 0 (omega arith))
 
 pub returns-else-given-eq0 : goal.returns-else-given-eq0
 unfolding or_house
-returns-else-given-eq0 c = rw (ne_eqb c.args.given 0 (λ e. omega (arith, e))) c.wide.ensures.0
+returns-else-given-eq0 c = rw (ne_eqb c.args.given 0 (λ e. omega (arith, e))) c.from.ensures
