@@ -22,7 +22,7 @@ ghost use Rattle.graph_answers.specs.Fitted.{fitted_of};
 ghost use Rattle.graph_answers.specs.Answers.{graphed_of, graph_left};
 ghost use Rattle.machine.specs.Schedules.{schedule_of, Names};
 ghost use Rattle.machine.specs.Runs.{begun, told_at, Countable, Accepted, Begins, Ran, Suits};
-ghost use Rattle.machine.specs.Loop.{Onward, Resolved, event_of, Fits, MarkableAt, Moves};
+ghost use Rattle.machine.specs.Loop.{Onward, Resolved, Final, event_of, Fits, MarkableAt, Moves};
 ghost use Rattle.machine.specs.Written.{Finished, Wrote, Lends, cleared_by, StopToldLent};
 ghost use Rattle.machine.specs.AllThree.{AllThree, AllThreeGraphs};
 
@@ -136,23 +136,21 @@ fn stop(number: u32, function: usize, node: usize, transitions: u64, deepest: us
     })
 }
 
-// The answer where a run ends, which is at no pause: its value with the counts, or its stop with the transitions made and the depth reached.
+// The answer where a run ends: its value with the counts, or its stop with the transitions made and the depth reached.
 fn tell(plan: Plan, s: Registers, step: Progress) -> Answer
-    requires { (Countable plan s) × ((pause : Pause) → step ≡ Progress.Paused pause → ⊥) }
+    requires { (Countable plan s) × (Final step) }
     ensures { result ≡ told_at plan.tau s (step_of step) }
 {
     match step {
         Progress::Value(v) => Answer::Value(v, count(plan.tau, s)),
         Progress::Halt(h) => stop(h.number, h.function, h.node, s.transitions, s.deepest),
-        Progress::Go(_) => stop(0, 0, 0, 0, 0),
-        Progress::Free(_, _) => stop(0, 0, 0, 0, 0),
-        Progress::Paused(_) => stop(0, 0, 0, 0, 0),
+        Progress::Go(_) | Progress::Free(_, _) | Progress::Paused(_) => unreachable!(),
     }
 }
 
 // Where a run ends: its answer, and the number of words that its graph needs.
 fn finish(graph: &mut [u32], plan: Plan, g: Compact, n: usize, step: Progress) -> Graphed
-    requires { (g.since ≤ g.transitions) × ((full g).span.0 < 2 ^ 60) × (Countable plan (full g)) × (0 < length graph.old → Small n (full g).credits.0) × ((pause : Pause) → step ≡ Progress.Paused pause → ⊥) }
+    requires { (g.since ≤ g.transitions) × ((full g).span.0 < 2 ^ 60) × (Countable plan (full g)) × (0 < length graph.old → Small n (full g).credits.0) × (Final step) }
     ensures { (result.answer ≡ told_at plan.tau (full g) (step_of step)) × (Finished graph.old n (full g).credits.0 result.words graph.new) }
 {
     let answer = tell(plan, compact::expand(g), step);
