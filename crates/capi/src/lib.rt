@@ -26,39 +26,39 @@ fn words_of(answer: Answer) -> [u64; 9]
     ensures { result ≡ answer_words answer }
 {
     match answer {
-        Answer::Value(v, k) => {
-            let work = k.work;
-            let span = k.span;
-            [
-                0,
-                v,
-                0,
-                0,
-                k.transitions,
-                k.forks,
-                work.0,
-                span.0,
-                k.deepest as u64,
-            ]
-        }
-        Answer::Stopped(s) => {
-            let number = s.number as u64;
-            [
-                1,
-                number,
-                s.function as u64,
-                s.node as u64,
-                s.transitions,
-                0,
-                0,
-                0,
-                s.deepest as u64,
-            ]
-        }
-        Answer::Refused(r) => {
-            let number = r.number as u64;
-            [2, number, r.function as u64, r.node as u64, 0, 0, 0, 0, 0]
-        }
+        Answer::Value(v, k) => [
+            0,
+            v,
+            0,
+            0,
+            k.transitions,
+            k.forks,
+            k.work.0,
+            k.span.0,
+            k.deepest as u64,
+        ],
+        Answer::Stopped(s) => [
+            1,
+            s.number as u64,
+            s.function as u64,
+            s.node as u64,
+            s.transitions,
+            0,
+            0,
+            0,
+            s.deepest as u64,
+        ],
+        Answer::Refused(r) => [
+            2,
+            r.number as u64,
+            r.function as u64,
+            r.node as u64,
+            0,
+            0,
+            0,
+            0,
+            0,
+        ],
     }
 }
 
