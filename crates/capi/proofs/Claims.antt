@@ -2,17 +2,14 @@
 -- Assumes nothing.
 use Prim.Native.Nat.{ℕ, ◌≤◌, ◌<◌}
 use mathlib.Core.Path.{◌≡◌, refl, sym, ap, ◌∙◌}
-use mathlib.Core.Bool.{Bool, true, false, cond}
 use mathlib.Core.List.{List}
 use native.Mathlib.Omega.{arith}
 use lib.ListN.{length, get_or}
-use lib.Dec.{eqb}
-use Rattle.schedule.specs.Machine.{Schedule, sequential, parallel, heartbeat}
 use Rattle.language.specs.declared.Counts.{Counts}
 use Rattle.language.specs.declared.Stop.{Stop}
 use Rattle.language.specs.declared.Answer.{Answer}
 use Rattle.language.specs.declared.Answer.TheVariants.{Value, Stopped, Refused}
-use Rattle.language.specs.Answers.{answer_of, sequential_of, parallel_of, heartbeat_of, deepest_of}
+use Rattle.language.specs.Answers.{sequential_of, parallel_of, heartbeat_of, deepest_of}
 use Rattle.language.specs.Claim.{FourStatements, SameStop}
 use Rattle.language.specs.Stops.{Listed}
 use Rattle.language.proofs.Claim.{claim, same_depth, stops_agree}
@@ -20,7 +17,8 @@ use Rattle.language.proofs.Stops.{stops_listed}
 use Rattle.capi.specs.Words.{answer_words, written}
 use Rattle.capi.specs.Calls.{answer_by}
 use Rattle.capi.specs.Claims.{FourOfWords, CallWrote, ThreeCalls, DepthOfCalls, SameStopIn, StopsOfCalls, StopIn, StopOfCall}
-use Rattle.capi.proofs.Serving.{serving}
+use Rattle.capi.specs.Graphs.{schedule_by}
+use Rattle.capi.proofs.Serving.{serving, by_number}
 use Rattle.capi.proofs.Writing.{length_written, word_written}
 
 -- the words of an answer at the front of a buffer, by their places
@@ -127,22 +125,6 @@ stops_of_calls w arguments fuel N τ workspace s p h cs cp ch one-kind least mos
     let both = (stops_agree w arguments fuel N τ workspace).at_a_stop a.0 a.1 (omega (arith, told, least)) (omega (arith, told, most)) in
     (same_words s p a.0 _ ws (tells cp) both.0, same_words s h a.0 _ ws (tells ch) both.1)
 
--- the schedule of a machine by its number
-scheduled : ℕ → ℕ → Schedule
-scheduled machine N = cond (eqb machine 0) sequential (cond (eqb machine 1) parallel (heartbeat N))
-
-by_number : (machine : ℕ) (w arguments : List ℕ) (fuel N τ workspace : ℕ)
-    → answer_by machine w arguments fuel N τ workspace ≡ answer_of (scheduled machine N) w arguments fuel N τ workspace
-unfolding answer_by scheduled
-by_number machine w arguments fuel N τ workspace = on (eqb machine 0) (eqb machine 1)
-  where
-    on : (x y : Bool) → cond x (sequential_of w arguments fuel N τ workspace)
-        (cond y (parallel_of w arguments fuel N τ workspace) (heartbeat_of w arguments fuel N τ workspace))
-        ≡ answer_of (cond x sequential (cond y parallel (heartbeat N))) w arguments fuel N τ workspace
-    on true y = refl
-    on false true = refl
-    on false false = refl
-
 -- a listed stop, as its words
 pub listed_words : (w : List ℕ) (fuel : ℕ) (out : List ℕ) (s : Stop) → Front out (Stopped s) → Listed w fuel s → StopIn w fuel out
 unfolding answer_words
@@ -164,4 +146,4 @@ stop_of_call machine w arguments fuel N τ workspace out c one-kind =
     let f = tells c in
     let a = stopped (answer_by machine w arguments fuel N τ workspace) (sym (f.at 0 (omega arith)) ∙ one-kind) in
     listed_words w fuel out a.0 (rw a.1 at f)
-    (stops_listed (scheduled machine N) w arguments fuel N τ workspace a.0 (sym (by_number machine w arguments fuel N τ workspace) ∙ a.1))
+    (stops_listed (schedule_by machine N) w arguments fuel N τ workspace a.0 (sym (by_number machine w arguments fuel N τ workspace) ∙ a.1))

@@ -6,7 +6,7 @@ use mathlib.Core.Bool.{true, false}
 use mathlib.Core.List.{List, [], ◌∷◌, ◌++◌}
 use mathlib.Core.Logic.{◌⊎◌, inl, inr}
 use native.Mathlib.Omega.{arith}
-use lib.ListN.{length, get_or, length-append, get_or-append}
+use lib.ListN.{length, get_or, set, length-append, get_or-append}
 use lib.Seq.{get_or-append_seam}
 use Rattle.schedule.specs.Machine.{sequential, parallel, heartbeat}
 use Rattle.language.specs.declared.Stop.{Stop}
@@ -19,12 +19,14 @@ use Rattle.graph_answers.specs.Answers.{graphed_of, graph_left}
 use Rattle.graph_answers.specs.Claim.{Not25, answer_lent, Told25}
 use Rattle.graph_answers.proofs.Claim.{claim_lent, same_depth_lent, stops_agree_lent, stops_listed_lent}
 use Rattle.graph_answers.proofs.Reported.{reported}
+use Rattle.machine.specs.declared.Schedule.{Schedule}
+use Rattle.machine.specs.Schedules.{schedule_of, number_of}
 use Rattle.machine.specs.Workspace.{left_by}
 use Rattle.capi.specs.Words.{answer_words, written}
 use Rattle.capi.specs.Calls.{served}
 use Rattle.capi.specs.Claims.{StopIn}
 use Rattle.capi.specs.Graphs.{schedule_by, graph_words, GraphCalled, words_in, GraphCallWrote, Not25In, ThreeGraphCalls, DepthOfGraphCalls, StopsOfGraphCalls, Stop25In, StopOfGraphCall, GraphOfCall}
-use Rattle.capi.proofs.Serving.{serving}
+use Rattle.capi.proofs.Serving.{serving, by_name}
 use Rattle.capi.proofs.Writing.{length_written, word_written}
 use Rattle.capi.proofs.Claims.{Front, nine, valued, stopped, shown, four_words, same_words, listed_words}
 
@@ -33,15 +35,14 @@ module _ (machine : ℕ) (w arguments : List ℕ) (fuel N τ : ℕ) (ws graph ou
   pub turned_away : served machine (length out) ≡ false → GraphCalled machine w arguments fuel N τ ws graph out ws graph out 1
   turned_away h = record { returned = rw h; workspace = rw h; buffer = rw h; answer = rw h }
 
-  pub told : (r : Graphed) (ws' graph' out' : List ℕ) → served machine (length out) ≡ true → r ≡ graphed_of (schedule_by machine N) w arguments fuel N τ (length ws) (length graph)
-      → ws' ≡ left_by r.answer ws → graph' ≡ graph_left (schedule_by machine N) w arguments fuel N τ (length ws) graph → out' ≡ written out (graph_words r)
+  pub told : (schedule : Schedule) (r : Graphed) (ws' graph' out' : List ℕ) → (served machine (length out) ≡ true) × (number_of schedule ≡ machine)
+      → r ≡ graphed_of (schedule_of schedule N) w arguments fuel N τ (length ws) (length graph) → ws' ≡ left_by r.answer ws
+      → graph' ≡ graph_left (schedule_of schedule N) w arguments fuel N τ (length ws) graph → out' ≡ written out (graph_words r)
       → GraphCalled machine w arguments fuel N τ ws graph out ws' graph' out' 0
-  told r ws' graph' out' h a left wrote tells = record {
-    returned = rw h;
-    workspace = rw (h, ← a) left;
-    buffer = rw h wrote;
-    answer = rw (h, ← a) tells;
-  }
+  told schedule r ws' graph' out' h a left wrote tells =
+      let name = by_name schedule machine N h.1 in
+      let is = rw name at a in
+      record { returned = rw h.0; workspace = rw (h.0, ← is) left; buffer = rw (h.0, ← name) wrote; answer = rw (h.0, ← is) tells }
 
 -- THE WORDS of such an answer: the first nine are those of the answer, the tenth is the number of words
 ten : (r : Graphed) → length (graph_words r) ≡ 10
@@ -53,14 +54,12 @@ first_nine r i h = get_or-append (answer_words r.answer) (r.words ∷ []) 0 i (o
 tenth : (r : Graphed) → get_or (graph_words r) 9 0 ≡ r.words
 tenth r = ap (λ (i : ℕ). get_or (graph_words r) i 0) (sym (nine r.answer)) ∙ get_or-append_seam (answer_words r.answer) r.words [] 0
 
--- one by one
-pub spelled : (a : Answer) (n : ℕ)
-    → get_or (answer_words a) 0 0 ∷ get_or (answer_words a) 1 0 ∷ get_or (answer_words a) 2 0 ∷ get_or (answer_words a) 3 0 ∷ get_or (answer_words a) 4 0
-    ∷ get_or (answer_words a) 5 0 ∷ get_or (answer_words a) 6 0 ∷ get_or (answer_words a) 7 0 ∷ get_or (answer_words a) 8 0 ∷ n ∷ [] ≡ answer_words a ++ (n ∷ [])
+-- it is put after the nine
+pub put_tenth : (a : Answer) (n : ℕ) → set (answer_words a ++ (0 ∷ [])) 9 n ≡ answer_words a ++ (n ∷ [])
 unfolding answer_words
-spelled (Value v k) n = refl
-spelled (Stopped s) n = refl
-spelled (Refused r) n = refl
+put_tenth (Value v k) n = refl
+put_tenth (Stopped s) n = refl
+put_tenth (Refused r) n = refl
 
 front : (out : List ℕ) (r : Graphed) → 8 ≤ length out → Front (written out (graph_words r)) r.answer
 front out r h = record {

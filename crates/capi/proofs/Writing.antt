@@ -1,11 +1,13 @@
 -- The words of an answer in a buffer: written by a copy, found by their places, and unseen where they are past its end.
 -- Assumes nothing.
-use Prim.Native.Nat.{ℕ, ◌+◌, ◌≤◌, ◌<◌}
+use Prim.Native.Nat.{ℕ, ◌≤◌, ◌<◌}
+use Rattle.std.specs.Prelude.{min}
 use mathlib.Core.Path.{◌≡◌, sym, ap, ◌∙◌}
 use mathlib.Core.List.{List, ◌++◌}
 use native.Mathlib.Omega.{arith}
+use native.Mathlib.Decide.{dec_lt}
 use lib.ListN.{length, get_or, take, drop, length-append, length-take, length-drop, drop_of_length-le, get_or-append}
-use lib.Seq.{paste, take_all, take-length, take-append-le, get_or-take}
+use lib.Seq.{take_all, take-length, take-append-le, get_or-take}
 use Rattle.capi.specs.Words.{written, GrownUnseen}
 
 -- nothing lies past a buffer's end
@@ -13,18 +15,18 @@ past : (out : List ℕ) (i j : ℕ) → length out ≤ i → length out ≤ j �
 past out i j h k = drop_of_length-le out h ∙ sym (drop_of_length-le out k)
 
 module _ (out words : List ℕ) where
-  -- a copy of all that there is room for
-  pub copied_to_end : length out < length words → paste out 0 words (length out) ≡ written out words
+  -- a copy of as many words as there is room for
+  pub copied : (n : ℕ) → n ≡ min (length out) (length words) → take n words ++ drop n out ≡ written out words
   unfolding written
-  copied_to_end h =
-      ap (λ (rest : List ℕ). take (length out) words ++ rest) (past out (0 + length out) (length words) (omega arith) (omega (arith, h)))
-
-  -- or of all words
-  pub copied_whole : length words ≤ length out → paste out 0 words (length words) ≡ written out words
-  unfolding written
-  copied_whole h =
-      let n : 0 + length words ≡ length words = omega arith in
-      rw (n, take-length words, take_all (length out) words h)
+  copied n e = on (dec_lt (length out) (length words))
+    where
+      on : Dec (length out < length words) → take n words ++ drop n out ≡ take (length out) words ++ drop (length words) out
+      on (yes h) =
+          let all : n ≡ length out = omega (arith, e) in
+          rw all (ap (λ (rest : List ℕ). take (length out) words ++ rest) (past out (length out) (length words) (omega arith) (omega (arith, h))))
+      on (no h) =
+          let all : n ≡ length words = omega (arith, e) in
+          rw (all, take-length words, take_all (length out) words (omega arith))
 
   pub length_written : length (written out words) ≡ length out
   unfolding written

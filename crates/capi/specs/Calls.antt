@@ -1,7 +1,9 @@
 -- What a call tells and leaves, for any input.
-use Rattle.std.specs.Prelude.{ℕ, ◌≡◌, Bool, cond, ◌&&◌, List, length, eqb, leb}
+use Rattle.std.specs.Prelude.{ℕ, ◌≡◌, Bool, true, false, cond, ◌&&◌, List, length, eqb, leb, Option, MatchOption}
 use Rattle.language.specs.declared.Answer.{Answer}
 use Rattle.language.specs.Answers.{sequential_of, parallel_of, heartbeat_of}
+use Rattle.machine.specs.declared.Schedule.{Schedule}
+use Rattle.machine.specs.Schedules.{number_of}
 use Rattle.machine.specs.Workspace.{left_by}
 use Rattle.capi.specs.Words.{answer_words, written}
 
@@ -15,6 +17,11 @@ answer_by machine w arguments fuel N τ workspace =
 -- enough.
 unfoldable pub served : ℕ → ℕ → Bool
 served machine room = leb machine 2 && leb 8 room
+
+-- a call that is served has the schedule of its machine's number
+abbrev pub Serves : ℕ → ℕ → Option Schedule → Type 0
+Serves machine room r =
+    MatchOption r (served machine room ≡ false) (λ schedule. (served machine room ≡ true) × (number_of schedule ≡ machine))
 
 -- `ws` and `out` are the words of the workspace and of the answer's buffer at the call, `ws'` and `out'` those at its end, and r is what
 -- the call returns: where it is not served, 1, and nothing is changed

@@ -41,7 +41,7 @@ use Rattle.graph_answers.proofs.Buffer.{left_refused, buffer_left}
 use Rattle.graph_answers.proofs.Claim.{stops_listed_lent}
 use Rattle.moves.specs.declared.Plan.{Plan}
 use Rattle.machine.specs.Workspace.{left_by}
-use Rattle.machine.specs.Runs.{Suits, Tells}
+use Rattle.machine.specs.Runs.{Suits}
 use Rattle.machine.specs.Written.{Wrote, Lends, cleared_to, cleared_by, StopToldLent}
 
 pub wrote_with : (w from arguments : List ℕ) (size : ℕ) (plan : Plan) (graph : List ℕ) (words : ℕ) (graph' : List ℕ) → from ≡ arguments
@@ -54,24 +54,23 @@ module _ (w arguments : List ℕ) (fuel N τ size asked : ℕ) (read : Reading) 
   checked_so = rw (← same) (sym told)
 
   pub lends_run : read ≡ reading.Accepted → Admitted w (length arguments) fuel N τ asked → (plan : Plan) (graph : List ℕ) (words : ℕ) (graph' : List ℕ)
-      → Wrote w arguments size plan graph words graph' → plan.fuel.0 ≡ fuel → Lends w arguments fuel N τ size plan.birth plan.period graph words graph'
-  lends_run e a plan graph words graph' x f = record {
+      → Wrote w arguments size plan graph words graph' → plan.fuel.0 ≡ fuel → (m : Schedule) → Suits fuel m plan.birth plan.period → Lends w arguments fuel N τ size m graph words graph'
+  lends_run e a plan graph words graph' x f m suits = record {
     long = x.long;
     refused = λ r c. let no : ◌≡◌ {A = ℕ} 0 1 = cc (checked_so) in absurd (omega arith);
-    holds = λ m suits c v g t o. x.holds m (rw f (suits a.fuel.most)) v g t (rw f o);
+    holds = λ c v g t o. x.holds m (rw f (suits a.fuel.most)) v g t (rw f o);
   }
 
-  pub lends_refusal : (r : Refusal) → read ≡ reading.Refused r → (birth : Bool) (pace : ℕ) (graph : List ℕ) → Lends w arguments fuel N τ size birth pace graph 1 graph
-  lends_refusal r e birth pace graph = record {
+  pub lends_refusal : (r : Refusal) → read ≡ reading.Refused r → (m : Schedule) (graph : List ℕ) → Lends w arguments fuel N τ size m graph 1 graph
+  lends_refusal r e m graph = record {
     long = refl;
     refused = λ r c. refl;
-    holds = λ m suits c v g t o. let no : ◌≡◌ {A = ℕ} 0 1 = cc (checked_so) in absurd (omega arith);
+    holds = λ c v g t o. let no : ◌≡◌ {A = ℕ} 0 1 = cc (checked_so) in absurd (omega arith);
   }
 
--- WHAT IS TOLD AND LEFT, by a schedule that the flags suit
-module _ (m : Schedule) (w arguments : List ℕ) (fuel N τ size : ℕ) (birth : Bool) (pace : ℕ) (suits : Suits fuel m birth pace)
-    (found : List ℕ) (answer : Answer) (words : ℕ) (graph : List ℕ)
-    (tells : Tells w arguments fuel N τ size birth pace answer) (lends : Lends w arguments fuel N τ size birth pace found words graph) where
+-- WHAT IS TOLD AND LEFT, by a schedule
+module _ (m : Schedule) (w arguments : List ℕ) (fuel N τ size : ℕ) (found : List ℕ) (answer : Answer) (words : ℕ) (graph : List ℕ)
+    (tells : answer ≡ answer_of m w arguments fuel N τ size) (lends : Lends w arguments fuel N τ size m found words graph) where
   abbrev checked : Reading
   checked = checked_of w (length arguments) fuel N τ size
 
@@ -79,14 +78,14 @@ module _ (m : Schedule) (w arguments : List ℕ) (fuel N τ size : ℕ) (birth :
   answer_is : checked ≡ reading.Accepted → (z : Ending) (g : Graph) (t : RunCounts)
       → outcome graphs (language w) fuel (frames_in size) m (entry_code arguments) ≡ ended z g t → answer ≡ told_by {X = State graphs (language w)} τ (ended z g t)
   unfolding answer_of after_check run_of
-  answer_is c z g t o = tells m suits ∙ rw c (ap (told_by τ) o)
+  answer_is c z g t o = tells ∙ rw c (ap (told_by τ) o)
 
   -- a value's graph has words
   some_words : checked ≡ reading.Accepted → (v : ℕ) (g : Graph) (t : RunCounts)
       → outcome graphs (language w) fuel (frames_in size) m (entry_code arguments) ≡ ended (value v) g t → 0 < length (written g)
   unfolding told_by
   some_words c v g t o =
-      omega (arith, never_empty m w arguments fuel N τ size v _ (sym (tells m suits) ∙ answer_is c (value v) g t o), needed_is m w arguments fuel size v g t o)
+      omega (arith, never_empty m w arguments fuel N τ size v _ (sym tells ∙ answer_is c (value v) g t o), needed_is m w arguments fuel size v g t o)
 
   -- the count serves
   counted : checked ≡ reading.Accepted → (v : ℕ) (g : Graph) (t : RunCounts) → outcome graphs (language w) fuel (frames_in size) m (entry_code arguments) ≡ ended (value v) g t
@@ -94,19 +93,19 @@ module _ (m : Schedule) (w arguments : List ℕ) (fuel N τ size : ℕ) (birth :
   counted c v g t o = on (dec_lt 0 (length found))
     where
       on : Dec (0 < length found) → Serves (length found) words (length (written g))
-      on (yes h) = inl ((lends.holds m suits c v g t o).some h).0
-      on (no h) = inr (omega (arith, (lends.holds m suits c v g t o).none (omega arith)), omega (arith, some_words c v g t o))
+      on (yes h) = inl ((lends.holds c v g t o).some h).0
+      on (no h) = inr (omega (arith, (lends.holds c v g t o).none (omega arith)), omega (arith, some_words c v g t o))
 
   module _ (r : Graphed) (e : r ≡ fitted_of answer words (length graph)) where
     refused_so : (f : Refusal) → checked ≡ reading.Refused f → r ≡ record { answer = Refused f; words = 0 }
     unfolding fitted_of
-    refused_so f c = e ∙ rw (tells m suits ∙ sym (answer_refused m w arguments fuel N τ size f c))
+    refused_so f c = e ∙ rw (tells ∙ sym (answer_refused m w arguments fuel N τ size f c))
 
     pub fitted_told : r ≡ graphed_of m w arguments fuel N τ size (length found)
     fitted_told = on checked refl
       where
         on : (c : Reading) → checked ≡ c → r ≡ graphed_of m w arguments fuel N τ size (length found)
-        on reading.Accepted c = e ∙ rw (lends.long, tells m suits) (as_fitted m w arguments fuel N τ size (length found) words (counted c))
+        on reading.Accepted c = e ∙ rw (lends.long, tells) (as_fitted m w arguments fuel N τ size (length found) words (counted c))
         on (reading.Refused f) c = refused_so f c ∙ unfold graphed_of after_check unless_refused in (rw c)
 
     module _ (left : List ℕ) (l : left ≡ cleared_by r graph) where
@@ -129,7 +128,7 @@ module _ (m : Schedule) (w arguments : List ℕ) (fuel N τ size : ℕ) (birth :
               ∙ sym ((buffer_left m w arguments fuel N τ size found).at_25 v g t (record { accepted = c; is = o }) over)
           on (no over) =
               let some : 0 < length found = omega (arith, some_words c v g t o) in
-              let h = (lends.holds m suits c v g t o).some some in
+              let h = (lends.holds c v g t o).some some in
               let few : words ≤ length graph = omega (arith, h.0, lends.long) in
               left_so _ words (e ∙ sym (fits answer words (length graph) v _ (answer_is c (value v) g t o) few))
               ∙ ap (λ (x : List ℕ). x ++ replicate (length graph - words) 0) (h.1 (omega (arith, h.0)))

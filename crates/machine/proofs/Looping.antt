@@ -1,11 +1,12 @@
 -- The loop's turn: strides, and then a free move or the run's end.
+--     final                 a stride that goes no further ends the run
 --     paused_is, made_is    a pause changes nothing; what is no pause was made
 --     limit_awaits          what is asked at the limit
 --     pause_next            the invariants where a free move is awaited
 --     end_next              and where the run ends
 --     free_done, free_ends  a free move keeps them, or the run ends at it
 use Prim.Native.Nat.{ℕ, ◌<◌, ◌≤◌}
-use mathlib.Core.Path.{◌≡◌, sym, ◌∙◌}
+use mathlib.Core.Path.{◌≡◌, refl, sym, ◌∙◌}
 use mathlib.Core.List.{List}
 use native.Mathlib.Omega.{arith}
 use lib.ListN.{length}
@@ -15,23 +16,31 @@ use Rattle.compact.specs.declared.Event.{Event}
 use Rattle.compact.specs.declared.Pause.{Pause}
 use Rattle.compact.specs.declared.Pause.TheVariants.{Limit}
 use Rattle.compact.specs.declared.Progress.{Progress}
-use Rattle.compact.specs.declared.Progress.TheVariants.{Go, Free, Paused}
+use Rattle.compact.specs.declared.Progress.TheVariants.{Go, Value, Halt, Free, Paused}
 use Rattle.compact.specs.Compact.{full, Transits}
 use Rattle.strides.specs.Strides.{Starts, Strides, Awaits, Passes, made, pauses}
 use Rattle.machine.specs.declared.Reached.{Reached}
 use Rattle.machine.specs.declared.Moved.{Moved}
-use Rattle.machine.specs.Loop.{Stays, Onward, Resolved, as_before, at_limit, Moves, frees, stops}
+use Rattle.machine.specs.Loop.{Stays, Final, Onward, Resolved, as_before, at_limit, Moves, frees, stops}
 use Rattle.machine.proofs.Running.{Running, to_go, running_far}
 use Rattle.machine.proofs.Tracking.{Tracking, tracking_far, free_next}
 
 -- no stride is a pause, or a free move
-pub never_paused : {w ws ls : List ℕ} {plan : Plan} {g : Compact} {ws' ls' : List ℕ} {r : Progress} → Strides w ws ls plan g ws' ls' r → (p : Pause) → r ≡ Paused p → ⊥
+never_paused : {w ws ls : List ℕ} {plan : Plan} {g : Compact} {ws' ls' : List ℕ} {r : Progress} → Strides w ws ls plan g ws' ls' r → (p : Pause) → r ≡ Paused p → ⊥
 unfolding Transits
 never_paused st p e = rw e at st.transits
 
 never_free : {w ws ls : List ℕ} {plan : Plan} {g : Compact} {ws' ls' : List ℕ} {r : Progress} → Strides w ws ls plan g ws' ls' r → (next : Compact) (event : Event) → r ≡ Free next event → ⊥
 unfolding Transits
 never_free st next event e = rw e at st.transits
+
+-- so that one that goes no further ends the run
+pub final : {w ws ls : List ℕ} {plan : Plan} {g : Compact} {ws' ls' : List ℕ} (r : Progress) → Strides w ws ls plan g ws' ls' r → Stays r → Final r
+final (Value v) st stays = tt
+final (Halt h) st stays = tt
+final (Go next) st stays = stays next refl
+final (Free next event) st stays = never_free st next event refl
+final (Paused p) st stays = never_paused st p refl
 
 module _ {w ws ls : List ℕ} {plan : Plan} {g : Compact} {ws' ls' : List ℕ} {r : Progress} where
   pub paused_is : Passes w ws ls plan g ws' ls' r → (p : Pause) → r ≡ Paused p → (ws' ≡ ws) × (ls' ≡ ls) × Awaits w ws ls plan g p

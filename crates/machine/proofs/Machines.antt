@@ -8,7 +8,6 @@
 --     left_length, all_three     one workspace for all three
 use Prim.Native.Nat.{ℕ, ◌+◌, ◌≤◌}
 use mathlib.Core.Path.{◌≡◌, refl, sym, ap, ◌∙◌}
-use mathlib.Core.Bool.{Bool}
 use mathlib.Core.List.{List}
 use native.Mathlib.Omega.{arith}
 use lib.ListN.{length, take, drop, replicate, length-replicate}
@@ -28,7 +27,7 @@ use Rattle.language.proofs.Stops.{listed_of}
 use Rattle.language.proofs.Claim.{claim_of, same_depth_of, stops_agree_of}
 use Rattle.moves.specs.declared.Plan.{Plan}
 use Rattle.machine.specs.Workspace.{left_by}
-use Rattle.machine.specs.Runs.{Accepted, Ran, Tells}
+use Rattle.machine.specs.Runs.{Accepted, Ran, Suits}
 use Rattle.graph_answers.specs.declared.Graphed.{Graphed}
 use Rattle.graph_answers.specs.Answers.{graphed_of, graph_left}
 use Rattle.graph_answers.proofs.Claim.{claim_lent, claim_or_25, same_depth_lent, stops_agree_lent}
@@ -53,14 +52,13 @@ zeroed ws ws' n r e l left = e ∙ ap (λ (k : ℕ). replicate k 0) l ∙ sym le
 -- `asked` are the words of the workspace that the check was told of
 module _ (w arguments : List ℕ) (fuel N τ size asked : ℕ) (read : Reading) (told : read ≡ checked_of w (length arguments) fuel N τ asked) where
   pub tells_run : read ≡ reading.Accepted → Admitted w (length arguments) fuel N τ asked → asked ≡ size
-      → (plan : Plan) (r : Answer) → Ran w arguments size plan r → plan.fuel.0 ≡ fuel → plan.tau ≡ τ
-      → Tells w arguments fuel N τ size plan.birth plan.period r
-  tells_run e a same plan r ran f t m h =
-      (rw (f, t) at (ran.answers m (rw f (h a.fuel.most)))) ∙ answer_run m w arguments fuel N τ size (rw same at (sym told ∙ e))
+      → (m : Schedule) (plan : Plan) (r : Answer) → Ran w arguments size plan r → plan.fuel.0 ≡ fuel → plan.tau ≡ τ
+      → Suits fuel m plan.birth plan.period → r ≡ answer_of m w arguments fuel N τ size
+  tells_run e a same m plan r ran f t suits =
+      (rw (f, t) at (ran.answers m (rw f (suits a.fuel.most)))) ∙ answer_run m w arguments fuel N τ size (rw same at (sym told ∙ e))
 
-  pub tells_refusal : (f : Refusal) → read ≡ reading.Refused f → asked ≡ size
-      → (birth : Bool) (pace : ℕ) → Tells w arguments fuel N τ size birth pace (Refused f)
-  tells_refusal f e same birth pace m h = answer_refused m w arguments fuel N τ size f (rw same at (sym told ∙ e))
+  pub tells_refusal : (f : Refusal) → read ≡ reading.Refused f → asked ≡ size → (m : Schedule) → Refused f ≡ answer_of m w arguments fuel N τ size
+  tells_refusal f e same m = answer_refused m w arguments fuel N τ size f (rw same at (sym told ∙ e))
 
 -- ONE WORKSPACE: by what the check says
 unfoldable left_after : Reading → List ℕ → List ℕ

@@ -7,16 +7,17 @@ use Rattle.language.specs.Stops.{StopListed}
 use Rattle.language.specs.Claim.{DemandThree, SameDepth, StopsAgree}
 use Rattle.schedule.specs.Machine.{Schedule}
 use Rattle.language.specs.declared.Counts.{Counts}
+use Rattle.language.specs.declared.Answer.{Answer}
 use Rattle.language.specs.declared.Answer.TheVariants.{Value}
 use Rattle.graph_answers.specs.Answers.{graphed_of, graph_left}
 use Rattle.graph_answers.specs.Claim.{Not25, FourOr25}
-use Rattle.machine.specs.declared.Answers.{Answers}
-use Rattle.machine.specs.declared.GraphedAnswers.{GraphedAnswers}
+use Rattle.graph_answers.specs.declared.Graphed.{Graphed}
+use Rattle.machine.specs.declared.ByMachine.{ByMachine}
 use Rattle.machine.specs.Workspace.{left_by}
 use Rattle.machine.specs.Written.{StopToldLent}
 
 -- `ws` are the workspace's words at the call and `ws'` those at its end
-pub record AllThree (w arguments : List ℕ) (fuel N τ : ℕ) (ws ws' : List ℕ) (r : Answers) : Type 0 where
+pub record AllThree (w arguments : List ℕ) (fuel N τ : ℕ) (ws ws' : List ℕ) (r : ByMachine Answer) : Type 0 where
   pub sequential : r.sequential ≡ sequential_of w arguments fuel N τ (length ws)
   pub parallel : r.parallel ≡ parallel_of w arguments fuel N τ (length ws)
   pub heartbeat : r.heartbeat ≡ heartbeat_of w arguments fuel N τ (length ws)
@@ -30,7 +31,7 @@ pub record AllThree (w arguments : List ℕ) (fuel N τ : ℕ) (ws ws' : List �
 
 -- The same where each machine is lent a buffer for its cost graph (02, P1): a, b and c are the buffers' words at the call, and a', b' and c' those at its
 -- end. Demand 3 is one claim as before; it "also needs that this run did not stop with 25", and beside a 25 it holds of the counts of that run.
-pub record AllThreeGraphs (w arguments : List ℕ) (fuel N τ : ℕ) (ws a b c ws' a' b' c' : List ℕ) (r : GraphedAnswers) : Type 0 where
+pub record AllThreeGraphs (w arguments : List ℕ) (fuel N τ : ℕ) (ws a b c ws' a' b' c' : List ℕ) (r : ByMachine Graphed) : Type 0 where
   pub sequential : r.sequential ≡ graphed_of Schedule.sequential w arguments fuel N τ (length ws) (length a)
   pub parallel : r.parallel ≡ graphed_of Schedule.parallel w arguments fuel N τ (length ws) (length b)
   pub heartbeat : r.heartbeat ≡ graphed_of (Schedule.heartbeat N) w arguments fuel N τ (length ws) (length c)

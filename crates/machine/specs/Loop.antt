@@ -7,7 +7,7 @@ use Rattle.compact.specs.declared.Event.TheVariants as event
 use Rattle.compact.specs.declared.Pause.{Pause}
 use Rattle.compact.specs.declared.Pause.TheVariants.{Limit, Promotion, Fork, Turn, Join}
 use Rattle.compact.specs.declared.Progress.{Progress}
-use Rattle.compact.specs.declared.Progress.TheVariants.{Go, Paused}
+use Rattle.compact.specs.declared.Progress.TheVariants.{Go, Value, Halt, Free, Paused}
 use Rattle.compact.specs.Compact.{full}
 use Rattle.strides.specs.Strides.{Starts, Strides, Frees, Passes, Ends}
 use Rattle.marks.specs.Marks.{Markable, Marked}
@@ -23,6 +23,14 @@ pub data Far (w : List ℕ) (plan : Plan) (ws ls : List ℕ) (g : Compact) : Lis
 -- A STEP THAT GOES NO FURTHER by transitions
 abbrev pub Stays : Progress → Type 0
 Stays r = (next : Compact) → r ≡ Go next → ⊥
+
+-- A STEP THAT ENDS THE RUN, in a value or a stop
+abbrev pub Final : Progress → Type 0
+Final (Value v) = Unit {0}
+Final (Halt h) = Unit {0}
+Final (Go next) = ⊥
+Final (Free next event) = ⊥
+Final (Paused pause) = ⊥
 
 -- WHERE STRIDES COME TO NO MORE: the last call of a stride ended the run, or paused
 pub record Onward (w ws ls : List ℕ) (plan : Plan) (from : Compact) (ws' ls' : List ℕ) (r : Reached) : Type 0 where

@@ -1,5 +1,5 @@
 -- What the functions under the machines tell of the buffer that is lent for a run's cost graph.
-use Rattle.std.specs.Prelude.{ℕ, ◌-◌, ◌≤◌, ◌<◌, ◌≡◌, Bool, ◌⊎◌, List, ◌++◌, length, take, replicate}
+use Rattle.std.specs.Prelude.{ℕ, ◌-◌, ◌≤◌, ◌<◌, ◌≡◌, ◌⊎◌, List, ◌++◌, length, take, replicate}
 use Rattle.schedule.specs.Graph.{Graph}
 use Rattle.schedule.specs.Algebra.{graphs}
 use Rattle.schedule.specs.Machine.{Schedule, value, RunCounts, ended}
@@ -19,7 +19,6 @@ use Rattle.language.specs.Stops.{Listed}
 use Rattle.graph_answers.specs.declared.Graphed.{Graphed}
 use Rattle.graph_answers.specs.Claim.{Told25}
 use Rattle.moves.specs.declared.Plan.{Plan}
-use Rattle.machine.specs.Runs.{Suits}
 
 -- the last stretch ends, beside a buffer that has words; beside one that has none, 1 is told
 pub record Finished (graph : List ℕ) (n made words : ℕ) (graph' : List ℕ) : Type 0 where
@@ -37,11 +36,11 @@ pub record Wrote (w arguments : List ℕ) (workspace : ℕ) (plan : Plan) (graph
   pub holds : (m : Schedule) → Flags plan.fuel.0 m plan.birth plan.period → (v : ℕ) (g : Graph) (t : RunCounts)
       → outcome graphs (language w) plan.fuel.0 (frames_in workspace) m (entry_code arguments) ≡ ended (value v) g t → Holds graph words graph' g
 
--- WHAT A MACHINE WRITES, for any input, of each schedule that the flags suit
-pub record Lends (w arguments : List ℕ) (fuel N τ workspace : ℕ) (birth : Bool) (pace : ℕ) (graph : List ℕ) (words : ℕ) (graph' : List ℕ) : Type 0 where
+-- WHAT A MACHINE WRITES, for any input, by its schedule
+pub record Lends (w arguments : List ℕ) (fuel N τ workspace : ℕ) (m : Schedule) (graph : List ℕ) (words : ℕ) (graph' : List ℕ) : Type 0 where
   pub long : length graph' ≡ length graph
   pub refused : (r : Refusal) → checked_of w (length arguments) fuel N τ workspace ≡ reading.Refused r → graph' ≡ graph
-  pub holds : (m : Schedule) → Suits fuel m birth pace → checked_of w (length arguments) fuel N τ workspace ≡ reading.Accepted
+  pub holds : checked_of w (length arguments) fuel N τ workspace ≡ reading.Accepted
       → (v : ℕ) (g : Graph) (t : RunCounts) → outcome graphs (language w) fuel (frames_in workspace) m (entry_code arguments) ≡ ended (value v) g t
       → Holds graph words graph' g
 

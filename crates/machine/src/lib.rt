@@ -1,28 +1,28 @@
 // The three machines of document 01, in a lent workspace, for any input.
 //
-// `sequential`, `parallel` and `heartbeat` check their input and then run it, by one loop of strides and free moves; `all_three` calls all of
-// them, and promises demand 3 of their answers. What they answer is defined in crate `language` (specs/Answers.antt), and what they leave
-// in the workspace in specs/Workspace.antt.
+// A machine is named by its `Schedule`. `Schedule::run` checks its input and then runs it, by one loop of strides and free moves; `all_three`
+// calls it for each of the three, and promises demand 3 of their answers. What a machine answers is defined in crate `language`
+// (specs/Answers.antt), and what it leaves in the workspace in specs/Workspace.antt.
 //
-// `sequential_graph`, `parallel_graph`, `heartbeat_graph` and `all_three_graphs` are the same with a buffer lent for each run's cost graph
-// (document 02, P1). What they answer and leave in the buffer is defined in crate `graph_answers` (specs/Answers.antt). A run without a buffer
-// is the same run with an empty one, and 25 is not looked at.
+// `Schedule::run_graph` and `all_three_graphs` are the same with a buffer lent for each run's cost graph (document 02, P1). What they answer and
+// leave in the buffer is defined in crate `graph_answers` (specs/Answers.antt). A run without a buffer is the same run with an empty one, and 25
+// is not looked at.
 
 #![tactic(auto)]
 
 ghost use Rattle.std.specs.Prelude.{◌≡◌, ◌+◌, ◌*◌, ◌/◌, ◌≤◌, ◌<◌, ◌^◌, length, take};
 ghost use Rattle.table.specs.Read.{starts_of};
-ghost use Rattle.language.specs.Answers.{counts_of, stopped, sequential_of, parallel_of, heartbeat_of};
+ghost use Rattle.language.specs.Answers.{counts_of, stopped, answer_of};
 ghost use Rattle.language.specs.Stops.{StopListed};
 ghost use Rattle.compact.specs.Compact.{full, step_of, compact_of};
 ghost use Rattle.strides.specs.Strides.{Starts, Awaits};
 ghost use Rattle.marks.specs.Marks.{Small};
 ghost use Rattle.machine.specs.Workspace.{left_by};
-ghost use Rattle.schedule.specs.Machine.{Schedule};
 ghost use Rattle.graph_answers.specs.Fitted.{fitted_of};
 ghost use Rattle.graph_answers.specs.Answers.{graphed_of, graph_left};
-ghost use Rattle.machine.specs.Runs.{begun, told_at, Countable, Accepted, Begins, Ran, Tells};
-ghost use Rattle.machine.specs.Loop.{Onward, Resolved, event_of, Fits, MarkableAt, Moves};
+ghost use Rattle.machine.specs.Schedules.{schedule_of, Names};
+ghost use Rattle.machine.specs.Runs.{begun, told_at, Countable, Accepted, Begins, Ran, Suits};
+ghost use Rattle.machine.specs.Loop.{Onward, Resolved, Final, event_of, Fits, MarkableAt, Moves};
 ghost use Rattle.machine.specs.Written.{Finished, Wrote, Lends, cleared_by, StopToldLent};
 ghost use Rattle.machine.specs.AllThree.{AllThree, AllThreeGraphs};
 
@@ -31,26 +31,48 @@ use frames::Seat;
 use graph_answers::Graphed;
 use language::{Answer, Counts, Settings, Stop};
 use moves::{Control, Plan, Registers};
-use schedule::{Fuel, Span, Work};
+use schedule::{Span, Work};
 use table::Reading;
 
 // The period of a machine that never promotes: above any fuel.
-const NEVER: u64 = 18446744073709551615;
+// Kept: no plainer, because the moves compare the period of a `Plan` with the credits at each transition, and an `Option` there is one test more.
+const NEVER: u64 = u64::MAX;
 
-// The answers of the three machines to one input.
-#[derive(Clone, Copy)]
-pub struct Answers {
-    pub sequential: Answer,
-    pub parallel: Answer,
-    pub heartbeat: Answer,
+// The schedule by which a machine promotes forks: none; each at its birth; or the oldest plain one, N transitions after the running machine's
+// start.
+#[derive(Clone, Copy, Debug, PartialEq, Eq)]
+pub enum Schedule {
+    Sequential,
+    Parallel,
+    Heartbeat,
 }
 
-// The same with a buffer lent to each.
+// A number that names no schedule.
+#[derive(Clone, Copy, Debug, PartialEq, Eq)]
+pub struct UnknownSchedule(pub u32);
+
+// By the numbers of the C interface.
+impl TryFrom<u32> for Schedule {
+    type Error = UnknownSchedule;
+
+    ghost try_from_gives = { Names };
+
+    fn try_from(number: u32) -> Result<Self, UnknownSchedule> {
+        match number {
+            0 => Ok(Schedule::Sequential),
+            1 => Ok(Schedule::Parallel),
+            2 => Ok(Schedule::Heartbeat),
+            _ => Err(UnknownSchedule(number)),
+        }
+    }
+}
+
+// What the three machines tell of one input.
 #[derive(Clone, Copy)]
-pub struct GraphedAnswers {
-    pub sequential: Graphed,
-    pub parallel: Graphed,
-    pub heartbeat: Graphed,
+pub struct ByMachine<T> {
+    pub sequential: T,
+    pub parallel: T,
+    pub heartbeat: T,
 }
 
 // Where strides come to no more: the registers then, and the step that is none.
@@ -114,23 +136,21 @@ fn stop(number: u32, function: usize, node: usize, transitions: u64, deepest: us
     })
 }
 
-// The answer where a run ends, which is at no pause: its value with the counts, or its stop with the transitions made and the depth reached.
+// The answer where a run ends: its value with the counts, or its stop with the transitions made and the depth reached.
 fn tell(plan: Plan, s: Registers, step: Progress) -> Answer
-    requires { (Countable plan s) × ((pause : Pause) → step ≡ Progress.Paused pause → ⊥) }
+    requires { (Countable plan s) × (Final step) }
     ensures { result ≡ told_at plan.tau s (step_of step) }
 {
     match step {
         Progress::Value(v) => Answer::Value(v, count(plan.tau, s)),
         Progress::Halt(h) => stop(h.number, h.function, h.node, s.transitions, s.deepest),
-        Progress::Go(_) => stop(0, 0, 0, 0, 0),
-        Progress::Free(_, _) => stop(0, 0, 0, 0, 0),
-        Progress::Paused(_) => stop(0, 0, 0, 0, 0),
+        Progress::Go(_) | Progress::Free(_, _) | Progress::Paused(_) => unreachable!(),
     }
 }
 
 // Where a run ends: its answer, and the number of words that its graph needs.
 fn finish(graph: &mut [u32], plan: Plan, g: Compact, n: usize, step: Progress) -> Graphed
-    requires { (g.since ≤ g.transitions) × ((full g).span.0 < 2 ^ 60) × (Countable plan (full g)) × (0 < length graph.old → Small n (full g).credits.0) × ((pause : Pause) → step ≡ Progress.Paused pause → ⊥) }
+    requires { (g.since ≤ g.transitions) × ((full g).span.0 < 2 ^ 60) × (Countable plan (full g)) × (0 < length graph.old → Small n (full g).credits.0) × (Final step) }
     ensures { (result.answer ≡ told_at plan.tau (full g) (step_of step)) × (Finished graph.old n (full g).credits.0 result.words graph.new) }
 {
     let answer = tell(plan, compact::expand(g), step);
@@ -367,34 +387,21 @@ fn launch(
     run(words, &starts, arguments, ws, &mut locals, graph, plan)
 }
 
-// Any of the three machines, for any input: the check first; a run by the two flags of a schedule if it accepts. Beside the answer it tells the
-// number of words that the graph needs, and leaves in the buffer those that it has room for.
+// Any of the three machines, for any input: the check first; a run by the schedule's plan if it accepts. Beside the answer it tells the number of
+// words that the graph needs, and leaves in the buffer those that it has room for.
 fn machine(
     words: &[u32],
     arguments: &[u64],
+    schedule: Schedule,
     settings: Settings,
-    birth: bool,
-    pace: u64,
     workspace: &mut [u64],
     graph: &mut [u32],
 ) -> Graphed
-    ensures { (Tells words.now arguments.now settings.fuel.0 settings.period settings.tau (length workspace.old) birth pace result.answer) × (workspace.new ≡ left_by result.answer workspace.old) × (Lends words.now arguments.now settings.fuel.0 settings.period settings.tau (length workspace.old) birth pace graph.old result.words graph.new) }
+    ensures { (result.answer ≡ answer_of (schedule_of schedule settings.period) words.now arguments.now settings.fuel.0 settings.period settings.tau (length workspace.old)) × (workspace.new ≡ left_by result.answer workspace.old) × (Lends words.now arguments.now settings.fuel.0 settings.period settings.tau (length workspace.old) (schedule_of schedule settings.period) graph.old result.words graph.new) }
 {
     let read = language::checked(words, arguments.len(), settings, workspace.len());
-    let fuel = settings.fuel;
     match read {
-        Reading::Accepted => launch(
-            words,
-            arguments,
-            workspace,
-            graph,
-            Plan {
-                birth,
-                period: pace,
-                tau: settings.tau,
-                fuel,
-            },
-        ),
+        Reading::Accepted => launch(words, arguments, workspace, graph, schedule.plan(settings)),
         Reading::Refused(refusal) => Graphed {
             answer: Answer::Refused(refusal),
             words: 1,
@@ -402,25 +409,7 @@ fn machine(
     }
 }
 
-// The same without a buffer.
-fn alone(
-    words: &[u32],
-    arguments: &[u64],
-    settings: Settings,
-    birth: bool,
-    pace: u64,
-    workspace: &mut [u64],
-) -> Answer
-    ensures { (Tells words.now arguments.now settings.fuel.0 settings.period settings.tau (length workspace.old) birth pace result) × (workspace.new ≡ left_by result workspace.old) }
-{
-    let mut none = [0u32; 0];
-    let ran = machine(
-        words, arguments, settings, birth, pace, workspace, &mut none,
-    );
-    ran.answer
-}
-
-// With one: stop 25 where the graph does not fit, and zeros after it, or everywhere after a stop.
+// With a buffer: stop 25 where the graph does not fit, and zeros after it, or everywhere after a stop.
 fn concluded(graph: &mut [u32], ran: Graphed) -> Graphed
     ensures { (result ≡ fitted_of ran.answer ran.words (length graph.old)) × (graph.new ≡ cleared_by result graph.old) }
 {
@@ -439,158 +428,97 @@ fn concluded(graph: &mut [u32], ran: Graphed) -> Graphed
     told
 }
 
-// The sequential machine: no fork is promoted.
-pub fn sequential(
-    words: &[u32],
-    arguments: &[u64],
-    fuel: Fuel,
-    period: u64,
-    tau: u64,
-    workspace: &mut [u64],
-) -> Answer
-    ensures answer { result ≡ sequential_of words.now arguments.now fuel.0 period tau (length workspace.old) }
-    ensures leaves { workspace.new ≡ left_by result workspace.old }
-    ensures listed { StopListed words.now fuel.0 result }
-{
-    let settings = Settings { fuel, period, tau };
-    alone(words, arguments, settings, false, NEVER, workspace)
-}
+impl Schedule {
+    // The plan of a run.
+    fn plan(self, settings: Settings) -> Plan
+        ensures { (Suits settings.fuel.0 (schedule_of self settings.period) result.birth result.period) × (result.tau ≡ settings.tau) × (result.fuel.0 ≡ settings.fuel.0) }
+    {
+        let (birth, period) = match self {
+            Schedule::Sequential => (false, NEVER),
+            Schedule::Parallel => (true, NEVER),
+            Schedule::Heartbeat => (false, settings.period),
+        };
+        Plan {
+            birth,
+            period,
+            tau: settings.tau,
+            fuel: settings.fuel,
+        }
+    }
 
-// The parallel machine: every fork is promoted at its birth.
-pub fn parallel(
-    words: &[u32],
-    arguments: &[u64],
-    fuel: Fuel,
-    period: u64,
-    tau: u64,
-    workspace: &mut [u64],
-) -> Answer
-    ensures answer { result ≡ parallel_of words.now arguments.now fuel.0 period tau (length workspace.old) }
-    ensures leaves { workspace.new ≡ left_by result workspace.old }
-    ensures listed { StopListed words.now fuel.0 result }
-{
-    let settings = Settings { fuel, period, tau };
-    alone(words, arguments, settings, true, NEVER, workspace)
-}
+    // The machine of this schedule.
+    pub fn run(
+        self,
+        words: &[u32],
+        arguments: &[u64],
+        settings: Settings,
+        workspace: &mut [u64],
+    ) -> Answer
+        ensures answer { result ≡ answer_of (schedule_of self settings.period) words.now arguments.now settings.fuel.0 settings.period settings.tau (length workspace.old) }
+        ensures leaves { workspace.new ≡ left_by result workspace.old }
+        ensures listed { StopListed words.now settings.fuel.0 result }
+    {
+        let mut none = [0u32; 0];
+        let ran = machine(words, arguments, self, settings, workspace, &mut none);
+        ran.answer
+    }
 
-// The heartbeat machine: the oldest plain fork is promoted, N transitions after the running machine's start.
-pub fn heartbeat(
-    words: &[u32],
-    arguments: &[u64],
-    fuel: Fuel,
-    period: u64,
-    tau: u64,
-    workspace: &mut [u64],
-) -> Answer
-    ensures answer { result ≡ heartbeat_of words.now arguments.now fuel.0 period tau (length workspace.old) }
-    ensures leaves { workspace.new ≡ left_by result workspace.old }
-    ensures listed { StopListed words.now fuel.0 result }
-{
-    let settings = Settings { fuel, period, tau };
-    alone(words, arguments, settings, false, period, workspace)
+    // The same with a buffer lent for its cost graph.
+    pub fn run_graph(
+        self,
+        words: &[u32],
+        arguments: &[u64],
+        settings: Settings,
+        workspace: &mut [u64],
+        graph: &mut [u32],
+    ) -> Graphed
+        ensures answer { result ≡ graphed_of (schedule_of self settings.period) words.now arguments.now settings.fuel.0 settings.period settings.tau (length workspace.old) (length graph.old) }
+        ensures leaves { workspace.new ≡ left_by result.answer workspace.old }
+        ensures writes { graph.new ≡ graph_left (schedule_of self settings.period) words.now arguments.now settings.fuel.0 settings.period settings.tau (length workspace.old) graph.old }
+        ensures listed { StopToldLent words.now settings.fuel.0 result.answer }
+    {
+        let ran = machine(words, arguments, self, settings, workspace, graph);
+        concluded(graph, ran)
+    }
 }
 
 // All three machines on one workspace, one after the other, with demand 3 of their answers, the same depth at a value, and stops that agree.
 pub fn all_three(
     words: &[u32],
     arguments: &[u64],
-    fuel: Fuel,
-    period: u64,
-    tau: u64,
+    settings: Settings,
     workspace: &mut [u64],
-) -> Answers
-    ensures { AllThree words.now arguments.now fuel.0 period tau workspace.old workspace.new result }
+) -> ByMachine<Answer>
+    ensures { AllThree words.now arguments.now settings.fuel.0 settings.period settings.tau workspace.old workspace.new result }
 {
-    let one = sequential(words, arguments, fuel, period, tau, workspace);
-    let two = parallel(words, arguments, fuel, period, tau, workspace);
-    let three = heartbeat(words, arguments, fuel, period, tau, workspace);
-    Answers {
-        sequential: one,
-        parallel: two,
-        heartbeat: three,
+    let sequential = Schedule::Sequential.run(words, arguments, settings, workspace);
+    let parallel = Schedule::Parallel.run(words, arguments, settings, workspace);
+    let heartbeat = Schedule::Heartbeat.run(words, arguments, settings, workspace);
+    ByMachine {
+        sequential,
+        parallel,
+        heartbeat,
     }
-}
-
-// The sequential machine, with a buffer lent for its cost graph.
-pub fn sequential_graph(
-    words: &[u32],
-    arguments: &[u64],
-    fuel: Fuel,
-    period: u64,
-    tau: u64,
-    workspace: &mut [u64],
-    graph: &mut [u32],
-) -> Graphed
-    ensures answer { result ≡ graphed_of Schedule.sequential words.now arguments.now fuel.0 period tau (length workspace.old) (length graph.old) }
-    ensures leaves { workspace.new ≡ left_by result.answer workspace.old }
-    ensures writes { graph.new ≡ graph_left Schedule.sequential words.now arguments.now fuel.0 period tau (length workspace.old) graph.old }
-    ensures listed { StopToldLent words.now fuel.0 result.answer }
-{
-    let settings = Settings { fuel, period, tau };
-    let ran = machine(words, arguments, settings, false, NEVER, workspace, graph);
-    concluded(graph, ran)
-}
-
-// The parallel machine, with a buffer lent for its cost graph.
-pub fn parallel_graph(
-    words: &[u32],
-    arguments: &[u64],
-    fuel: Fuel,
-    period: u64,
-    tau: u64,
-    workspace: &mut [u64],
-    graph: &mut [u32],
-) -> Graphed
-    ensures answer { result ≡ graphed_of Schedule.parallel words.now arguments.now fuel.0 period tau (length workspace.old) (length graph.old) }
-    ensures leaves { workspace.new ≡ left_by result.answer workspace.old }
-    ensures writes { graph.new ≡ graph_left Schedule.parallel words.now arguments.now fuel.0 period tau (length workspace.old) graph.old }
-    ensures listed { StopToldLent words.now fuel.0 result.answer }
-{
-    let settings = Settings { fuel, period, tau };
-    let ran = machine(words, arguments, settings, true, NEVER, workspace, graph);
-    concluded(graph, ran)
-}
-
-// The heartbeat machine, with a buffer lent for its cost graph.
-pub fn heartbeat_graph(
-    words: &[u32],
-    arguments: &[u64],
-    fuel: Fuel,
-    period: u64,
-    tau: u64,
-    workspace: &mut [u64],
-    graph: &mut [u32],
-) -> Graphed
-    ensures answer { result ≡ graphed_of (Schedule.heartbeat period) words.now arguments.now fuel.0 period tau (length workspace.old) (length graph.old) }
-    ensures leaves { workspace.new ≡ left_by result.answer workspace.old }
-    ensures writes { graph.new ≡ graph_left (Schedule.heartbeat period) words.now arguments.now fuel.0 period tau (length workspace.old) graph.old }
-    ensures listed { StopToldLent words.now fuel.0 result.answer }
-{
-    let settings = Settings { fuel, period, tau };
-    let ran = machine(words, arguments, settings, false, period, workspace, graph);
-    concluded(graph, ran)
 }
 
 // All three machines on one workspace, one after the other, each with a buffer of its own for its cost graph, with demand 3 of their answers.
 pub fn all_three_graphs(
     words: &[u32],
     arguments: &[u64],
-    fuel: Fuel,
-    period: u64,
-    tau: u64,
+    settings: Settings,
     workspace: &mut [u64],
     first: &mut [u32],
     second: &mut [u32],
     third: &mut [u32],
-) -> GraphedAnswers
-    ensures { AllThreeGraphs words.now arguments.now fuel.0 period tau workspace.old first.old second.old third.old workspace.new first.new second.new third.new result }
+) -> ByMachine<Graphed>
+    ensures { AllThreeGraphs words.now arguments.now settings.fuel.0 settings.period settings.tau workspace.old first.old second.old third.old workspace.new first.new second.new third.new result }
 {
-    let one = sequential_graph(words, arguments, fuel, period, tau, workspace, first);
-    let two = parallel_graph(words, arguments, fuel, period, tau, workspace, second);
-    let three = heartbeat_graph(words, arguments, fuel, period, tau, workspace, third);
-    GraphedAnswers {
-        sequential: one,
-        parallel: two,
-        heartbeat: three,
+    let sequential = Schedule::Sequential.run_graph(words, arguments, settings, workspace, first);
+    let parallel = Schedule::Parallel.run_graph(words, arguments, settings, workspace, second);
+    let heartbeat = Schedule::Heartbeat.run_graph(words, arguments, settings, workspace, third);
+    ByMachine {
+        sequential,
+        parallel,
+        heartbeat,
     }
 }

@@ -24,7 +24,8 @@ use Rattle.language.proofs.Values.{spans_positive, sequential_work}
 use Rattle.language.proofs.Stops.{stops_listed}
 use Rattle.language.proofs.Claim.{claim, same_depth, stops_agree}
 use Rattle.language.proofs.House.{house_overhead}
-use Rattle.machine.specs.declared.Answers.{Answers}
+use Rattle.language.specs.declared.Answer.{Answer}
+use Rattle.machine.specs.declared.ByMachine.{ByMachine}
 use Rattle.machine.specs.AllThree.{AllThree}
 use Rattle.report.specs.Input.{count_of, words_of, or_house, period_word, job_of, complete, whole}
 use Rattle.lines.specs.Lines.{report_lines}
@@ -68,7 +69,7 @@ module _ (w ws out out' : List ℕ) (r : ℕ) where
   unfolding words_report words_leave
   turned_away h wrote = record { wrote = rw h wrote; workspace = rw h }
 
-  pub told : (ws' : List ℕ) (answers : Answers) (table arguments : List ℕ) (fuel N τ : ℕ) → complete w ≡ true
+  pub told : (ws' : List ℕ) (answers : ByMachine Answer) (table arguments : List ℕ) (fuel N τ : ℕ) → complete w ≡ true
       → table ≡ (job_of w).table → arguments ≡ (job_of w).arguments → fuel ≡ (job_of w).fuel → N ≡ (job_of w).period → τ ≡ (job_of w).tau
       → AllThree table arguments fuel N τ ws ws' answers
       → Wrote out 0 (report_lines answers.sequential answers.parallel answers.heartbeat) out' r → WordsReported w ws out ws' out' r
@@ -79,7 +80,7 @@ module _ (w ws out out' : List ℕ) (r : ℕ) where
   }
 
 -- No value's span is 0, and the sequential work has its bound.
-pub dividable : (table arguments : List ℕ) (fuel N τ : ℕ) (ws ws' : List ℕ) (answers : Answers)
+pub dividable : (table arguments : List ℕ) (fuel N τ : ℕ) (ws ws' : List ℕ) (answers : ByMachine Answer)
     → AllThree table arguments fuel N τ ws ws' answers
     → WorkAtMost 100000000 answers.sequential × SpanPositive answers.parallel
 dividable table arguments fuel N τ ws ws' answers a = (

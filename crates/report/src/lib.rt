@@ -124,9 +124,7 @@ fn report_words(words: &[u32], workspace: &mut [u64], out: &mut [u8]) -> usize
     let answers = machine::all_three(
         &words[from..],
         &arguments[..count],
-        given.fuel,
-        given.period,
-        given.tau,
+        given,
         workspace,
     );
     let sequential = answers.sequential;

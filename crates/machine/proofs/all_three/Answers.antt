@@ -4,4 +4,4 @@ use Rattle.machine.proofs.all_three.Goals as goal
 
 pub returns : goal.returns
 returns c =
-    all_three c.args.words.now c.args.arguments.now _ _ _ c.args.workspace.now _ _ _ _ _ _ c.sequential-one.ensures.answer c.sequential-one.ensures.leaves c.parallel-two.ensures.answer c.parallel-two.ensures.leaves c.heartbeat-three.ensures.answer c.heartbeat-three.ensures.leaves
+    all_three c.args.words.now c.args.arguments.now _ _ _ c.args.workspace.now _ _ _ _ _ _ c.run-sequential.ensures.answer c.run-sequential.ensures.leaves c.run-parallel.ensures.answer c.run-parallel.ensures.leaves c.run-heartbeat.ensures.answer c.run-heartbeat.ensures.leaves

@@ -1,5 +1,5 @@
 -- `machine::drive` meets its contract.
-use Rattle.machine.proofs.Looping.{never_paused, limit_awaits, pause_next, end_next, free_done, free_ends}
+use Rattle.machine.proofs.Looping.{final, limit_awaits, pause_next, end_next, free_done, free_ends}
 use Rattle.machine.proofs.Tracking.{tracking_first, small_end, free_markable, wrote}
 use Rattle.machine.proofs.Running.{running_first, running_expands, running_counts, running_ends, no_further}
 use mathlib.Core.Path.{refl, ◌∙◌}
@@ -21,7 +21,7 @@ finish-requires c =
     let i = c.loop-pause.invariant in
     let not = c.in_default.not-Paused in
     let x = end_next c.onward-reached.ensures c.resolved-step.ensures i.0 i.1 not in
-    ((running_expands x.0).0, (running_expands x.0).1, running_counts x.0, small_end x.0 x.1, not)
+    ((running_expands x.0).0, (running_expands x.0).1, running_counts x.0, small_end x.0 x.1, final _ x.2 x.3)
 
 pub shape_of-ws-in_default : goal.shape_of-ws-in_default
 shape_of-ws-in_default c = omega (arith, c.loop-pause.invariant.0.long, c.onward-reached.auto.ws)
@@ -51,7 +51,7 @@ finish-requires-in_default-end c =
     let i = c.loop-pause.invariant in
     let x = pause_next c.onward-reached.ensures c.resolved-step.ensures i.0 i.1 _ c.in-Paused.is in
     let y = free_ends x.1 c.free-moved.ensures c.in_default-end.not-Free in
-    ((running_expands x.0).0, (running_expands x.0).1, running_counts x.0, small_end x.0 y.0, never_paused y.1)
+    ((running_expands x.0).0, (running_expands x.0).1, running_counts x.0, small_end x.0 y.0, final _ y.1 y.2)
 
 pub shape_of-ws-in_default-end : goal.shape_of-ws-in_default-end
 shape_of-ws-in_default-end c =

@@ -10,14 +10,3 @@ returns-in-Value c = rw (c.in-Value.is, c.count.ensures)
 pub returns-in-Halt : goal.returns-in-Halt
 unfolding told_at step_of
 returns-in-Halt c = rw (c.in-Halt.is, c.stop.ensures)
-
-pub returns-in-Go : goal.returns-in-Go
-unfolding told_at step_of
-returns-in-Go c = rw (c.in-Go.is, c.stop-in-Go.ensures)
-
-pub returns-in-Free : goal.returns-in-Free
-unfolding told_at step_of
-returns-in-Free c = rw (c.in-Free.is, c.stop-in-Free.ensures)
-
-pub returns-in-Paused : goal.returns-in-Paused
-returns-in-Paused c = absurd (c.requires.1 _ c.in-Paused.is)
