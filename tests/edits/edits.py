@@ -170,26 +170,31 @@ def crates():
 # ---- the code: functions by their lines, and which a caller reaches
 
 FN = re.compile(r'^( *)(pub )?(extern "C" )?fn (\w+)')
+IMPL = re.compile(r"impl(?:<[^ ]*>)? (?:(?:\w+::)*(\w+)(?:<(\w+)>)? for )?(\w+)")
 
 
 class Function:
     def __init__(self, crate, name, line, exported, public):
         self.crate, self.name, self.line, self.exported, self.public = crate, name, line, exported, public
-        self.body, self.end, self.text, self.contract = None, None, "", ""
+        self.of, self.body, self.end, self.text, self.contract = None, None, None, "", ""
 
 
 def functions_of(crate, text):
-    """The functions of a file's text. `body` is the line after which a function's body begins, `end` its last; lines count from 1."""
-    found, owner, now, indent = [], None, None, ""
+    """The functions of a file's text. `body` is the line after which a function's body begins, `end` its last; lines count from 1. `of` is the type of a
+    method, its own or one of an impl of a trait."""
+    found, owner, of, now, indent = [], None, None, None, ""
     for number, line in enumerate(text.splitlines(), 1):
         if now is None:
-            if m := re.match(r"impl (\w+)", line):
-                owner = m.group(1)
+            if m := IMPL.match(line):
+                trait, argument, of = m.groups()
+                # as the prover says it: U32FromFailure is the impl of From<Failure> for u32
+                owner = "".join(w[0].upper() + w[1:] for w in (of, trait, argument) if w) if trait else of
             elif line == "}":
-                owner = None
+                owner = of = None
             if m := FN.match(line):
                 indent = m.group(1)
                 now = Function(crate, f"{owner}::{m.group(4)}" if indent else m.group(4), number, bool(m.group(3)), bool(m.group(2)))
+                now.of = of
                 found.append(now)
         if now is not None:
             now.text += re.sub(r"//.*", "", line) + "\n"
@@ -223,10 +228,8 @@ def calls(function, known):
             to.add((function.crate, last))
         elif above[-1] == "Self":
             to.add((function.crate, function.name.split("::")[0] + "::" + last))
-        elif above[-1][0].isupper():
-            to |= {k for k in known if k[1] == above[-1] + "::" + last}
         else:
-            to.add((above[-1], last))
+            to |= {k for k, f in known.items() if f.of == above[-1] and k[1].endswith("::" + last)} | {(above[-1], last)}
     return to & known.keys()
 
 
