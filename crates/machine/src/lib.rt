@@ -32,7 +32,6 @@ use graph_answers::Graphed;
 use language::{Answer, Counts, Settings, Stop};
 use moves::{Control, Plan, Registers};
 use schedule::{Span, Work};
-use table::Reading;
 
 // The period of a machine that never promotes: above any fuel.
 // Kept: no plainer, because the moves compare the period of a `Plan` with the credits at each transition, and an `Option` there is one test more.
@@ -401,8 +400,8 @@ fn machine(
 {
     let read = language::checked(words, arguments.len(), settings, workspace.len());
     match read {
-        Reading::Accepted => launch(words, arguments, workspace, graph, schedule.plan(settings)),
-        Reading::Refused(refusal) => Graphed {
+        Ok(()) => launch(words, arguments, workspace, graph, schedule.plan(settings)),
+        Err(refusal) => Graphed {
             answer: Answer::Refused(refusal),
             words: 1,
         },

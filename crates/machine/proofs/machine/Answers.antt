@@ -8,21 +8,21 @@ use Rattle.machine.proofs.machine.Goals as goal
 
 pub launch-requires : goal.launch-requires
 launch-requires c =
-    let a = c.checked-read.ensures.assures.0 c.in-Accepted.is in record { table = a.table; count = a.arguments; limits = record { fuel = omega arith; tau = omega arith; frames = omega arith } }
+    let a = c.checked-read.ensures.assures.0 c.in-Ok.is in record { table = a.table; count = a.arguments; limits = record { fuel = omega arith; tau = omega arith; frames = omega arith } }
 
-pub returns-in-Accepted : goal.returns-in-Accepted
-returns-in-Accepted c =
-    let a = c.checked-read.ensures.assures.0 c.in-Accepted.is in
+pub returns-in-Ok : goal.returns-in-Ok
+returns-in-Ok c =
+    let a = c.checked-read.ensures.assures.0 c.in-Ok.is in
     let p = c.plan.ensures in (
-      tells_run c.args.words.now c.args.arguments.now _ _ _ _ _ _ c.checked-read.ensures.answer c.in-Accepted.is a (omega arith) _ _ _ c.launch.ensures.0 p.2 p.1 p.0,
+      tells_run c.args.words.now c.args.arguments.now _ _ _ _ _ _ c.checked-read.ensures.answer c.in-Ok.is a (omega arith) _ _ _ c.launch.ensures.0 p.2 p.1 p.0,
       c.launch.ensures.1,
-      lends_run c.args.words.now c.args.arguments.now _ _ _ _ _ _ c.checked-read.ensures.answer (omega arith) c.in-Accepted.is a _ _ _ _ c.launch.ensures.2 p.2 _ p.0,
+      lends_run c.args.words.now c.args.arguments.now _ _ _ _ _ _ c.checked-read.ensures.answer (omega arith) c.in-Ok.is a _ _ _ _ c.launch.ensures.2 p.2 _ p.0,
     )
 
-pub returns-in-Refused : goal.returns-in-Refused
+pub returns-in-Err : goal.returns-in-Err
 unfolding left_by
-returns-in-Refused c = (
-  tells_refusal c.args.words.now c.args.arguments.now _ _ _ _ _ _ c.checked-read.ensures.answer _ c.in-Refused.is (omega arith) _,
+returns-in-Err c = (
+  tells_refusal c.args.words.now c.args.arguments.now _ _ _ _ _ _ c.checked-read.ensures.answer _ c.in-Err.is (omega arith) _,
   refl,
-  lends_refusal c.args.words.now c.args.arguments.now _ _ _ _ _ _ c.checked-read.ensures.answer (omega arith) _ c.in-Refused.is _ _,
+  lends_refusal c.args.words.now c.args.arguments.now _ _ _ _ _ _ c.checked-read.ensures.answer (omega arith) _ c.in-Err.is _ _,
 )
