@@ -8,13 +8,13 @@ use native.Mathlib.Omega.{arith}
 use lib.Dec.{leb}
 use lib.ListN.{length}
 use borrow.Author.Tests.{leb-true, le-leb, lt-leb}
+use Rattle.std.specs.Prelude.{Ok, Err}
 use Rattle.schedule.specs.Graph.{Graph}
 use Rattle.schedule.specs.Algebra.{graphs}
 use Rattle.schedule.specs.Machine.{value, stop, RunCounts, Result, ended, ongoing, Schedule}
 use Rattle.schedule.specs.Runs.{outcome}
 use Rattle.table.specs.declared.Refusal.{Refusal}
-use Rattle.table.specs.declared.Reading.{Reading}
-use Rattle.table.specs.declared.Reading.TheVariants as reading
+use Rattle.table.specs.Read.{Reading}
 use Rattle.language.specs.declared.Counts.{Counts}
 use Rattle.language.specs.declared.Stop.{Stop}
 use Rattle.language.specs.declared.Answer.{Answer}
@@ -76,8 +76,8 @@ module _ (m : Schedule) (w arguments : List ℕ) (fuel τ workspace lent n : ℕ
   of_check : (r : Reading) → WordsCounted m w arguments fuel workspace lent n → fitted_of (after_check r (run_of m w arguments fuel τ workspace)) n lent
       ≡ record { answer = after_check r (told_by τ ran); words = unless_refused r (words_of ran) 0 }
   unfolding after_check unless_refused run_of fitted_of
-  of_check reading.Accepted h = of_run w τ lent n (outcome graphs (language w) fuel (frames_in workspace) m (entry_code arguments)) h
-  of_check (reading.Refused r) h = refl
+  of_check (Ok _) h = of_run w τ lent n (outcome graphs (language w) fuel (frames_in workspace) m (entry_code arguments)) h
+  of_check (Err r) h = refl
 
 pub as_fitted : AsFitted
 unfolding answer_of graphed_of

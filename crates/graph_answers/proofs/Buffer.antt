@@ -7,13 +7,13 @@ use native.Mathlib.Omega.{arith}
 use lib.Dec.{leb}
 use lib.ListN.{length, replicate, length-append, length-replicate}
 use borrow.Author.Tests.{leb-true, le-leb, lt-leb}
+use Rattle.std.specs.Prelude.{Ok, Err}
 use Rattle.schedule.specs.Graph.{Graph}
 use Rattle.schedule.specs.Algebra.{graphs}
 use Rattle.schedule.specs.Machine.{Ending, value, stop, RunCounts, Result, ended, ongoing, Schedule}
 use Rattle.schedule.specs.Runs.{outcome}
 use Rattle.table.specs.declared.Refusal.{Refusal}
-use Rattle.table.specs.declared.Reading.{Reading}
-use Rattle.table.specs.declared.Reading.TheVariants as reading
+use Rattle.table.specs.Read.{Reading}
 use Rattle.graph.specs.Words.{written}
 use Rattle.graph.specs.Lent.{ending_with, left_in}
 use Rattle.language.specs.declared.Stop.{Stop}
@@ -27,12 +27,12 @@ use Rattle.graph_answers.specs.Buffer.{LeftLong, RanTo, BufferLeft, LeftByAnswer
 
 -- By what the check says.
 module _ (m : Schedule) (w arguments : List ℕ) (fuel N τ workspace : ℕ) (found : List ℕ) where
-  pub left_refused : (r : Refusal) → checked_of w (length arguments) fuel N τ workspace ≡ reading.Refused r
+  pub left_refused : (r : Refusal) → checked_of w (length arguments) fuel N τ workspace ≡ Err r
       → graph_left m w arguments fuel N τ workspace found ≡ found
   unfolding graph_left unless_refused
   left_refused r e = rw e
 
-  pub left_run : (z : Ending) (g : Graph) (t : RunCounts) → checked_of w (length arguments) fuel N τ workspace ≡ reading.Accepted
+  pub left_run : (z : Ending) (g : Graph) (t : RunCounts) → checked_of w (length arguments) fuel N τ workspace ≡ Ok tt
       → outcome graphs (language w) fuel (frames_in workspace) m (entry_code arguments) ≡ ended z g t
       → graph_left m w arguments fuel N τ workspace found ≡ left_in (length found) (ending_with (length found) z g) g
   unfolding graph_left unless_refused lent_to buffer_of
@@ -57,8 +57,8 @@ run_long w lent (ongoing s) = length-replicate {A = ℕ} lent 0
 
 check_long : (r : Reading) (ran found : List ℕ) → length ran ≡ length found → length (unless_refused r ran found) ≡ length found
 unfolding unless_refused
-check_long reading.Accepted ran found e = e
-check_long (reading.Refused r) ran found e = refl
+check_long (Ok _) ran found e = e
+check_long (Err r) ran found e = refl
 
 pub left_long : LeftLong
 unfolding graph_left
@@ -89,14 +89,14 @@ module _ (w : List ℕ) (τ lent : ℕ) where
   check_stopped : (s : Stop) (r : Reading) (o : Result graphs (language w)) (found : List ℕ) → after_check r (told_by τ o) ≡ Stopped s
       → unless_refused r (buffer_of lent o) found ≡ replicate lent 0
   unfolding after_check unless_refused
-  check_stopped s reading.Accepted o found e = run_stopped s o e
-  check_stopped s (reading.Refused r) o found e = let no : ◌≡◌ {A = ℕ} 0 1 = cc in absurd (omega arith)
+  check_stopped s (Ok _) o found e = run_stopped s o e
+  check_stopped s (Err r) o found e = absurd cc
 
   check_refused : (f : Refusal) (r : Reading) (o : Result graphs (language w)) (found : List ℕ) → after_check r (told_by τ o) ≡ Refused f
       → unless_refused r (buffer_of lent o) found ≡ found
   unfolding after_check unless_refused
-  check_refused f reading.Accepted o found e = absurd (ran_unrefused τ o f e)
-  check_refused f (reading.Refused r) o found e = refl
+  check_refused f (Ok _) o found e = absurd (ran_unrefused τ o f e)
+  check_refused f (Err r) o found e = refl
 
 pub left_by_answer : LeftByAnswerAlways
 unfolding graphed_of graph_left

@@ -5,9 +5,9 @@ use mathlib.Core.List.{List, ◌++◌}
 use native.Mathlib.Omega.{arith}
 use lib.ListN.{length, take, drop, replicate, length-append, length-replicate}
 use lib.Seq.{take-append_seam, drop-append_seam}
+use Rattle.std.specs.Prelude.{Ok}
 use Rattle.schedule.specs.Graph.{Graph, work, span}
 use Rattle.schedule.specs.Machine.{value, Schedule}
-use Rattle.table.specs.declared.Reading.TheVariants as reading
 use Rattle.graph.specs.Words.{written, words_work, words_span}
 use Rattle.graph.proofs.Words.{worked_out}
 use Rattle.language.specs.declared.Counts.{Counts}
@@ -41,7 +41,7 @@ of_graph τ k g zeros paid long =
 
 module _ (m : Schedule) (w arguments : List ℕ) (fuel N τ workspace v : ℕ) (k : Counts) (e : answer_of m w arguments fuel N τ workspace ≡ Value v k) where
   -- the input of a value is accepted
-  pub accepted : checked_of w (length arguments) fuel N τ workspace ≡ reading.Accepted
+  pub accepted : checked_of w (length arguments) fuel N τ workspace ≡ Ok tt
   accepted = (checked_iff w (length arguments) fuel N τ workspace).1 (value_admitted m w arguments fuel N τ workspace v k e)
 
 pub reported : ReportedAtValue

@@ -1,12 +1,11 @@
 -- WHAT A MACHINE ANSWERS WITH A BUFFER LENT for its cost graph (02, P1), and what it leaves there, for every input. The run is the one without a buffer;
 -- how it ends, the number of words and the buffer follow from its graph and from the number of words lent (crate graph, specs/Lent.antt).
-use Rattle.std.specs.Prelude.{ℕ, List, length, replicate}
+use Rattle.std.specs.Prelude.{ℕ, List, length, replicate, Ok, Err}
 use Rattle.schedule.specs.Graph.{Graph}
 use Rattle.schedule.specs.Algebra.{graphs}
 use Rattle.schedule.specs.Machine.{Outcome, Result, ended, ongoing, Schedule}
 use Rattle.schedule.specs.Runs.{outcome}
-use Rattle.table.specs.declared.Reading.{Reading}
-use Rattle.table.specs.declared.Reading.TheVariants as reading
+use Rattle.table.specs.Read.{Reading}
 use Rattle.graph.specs.Lent.{ending_with, words_told, left_in}
 use Rattle.language.specs.Language.{language}
 use Rattle.language.specs.Checks.{frames_in, checked_of}
@@ -35,8 +34,8 @@ lent_run machine w arguments fuel workspace lent =
 
 -- One thing where the check accepts, another where it refuses.
 unfoldable pub unless_refused : {A : Type 0} → Reading → A → A → A
-unless_refused reading.Accepted ran refused = ran
-unless_refused (reading.Refused r) ran refused = refused
+unless_refused (Ok _) ran refused = ran
+unless_refused (Err r) ran refused = refused
 
 -- THE ANSWER of a machine and the number of words, for any table, arguments, fuel, N, τ, length of the workspace and number of words lent.
 unfoldable pub graphed_of : Schedule → List ℕ → List ℕ → ℕ → ℕ → ℕ → ℕ → ℕ → Graphed

@@ -1,12 +1,11 @@
 -- THE BUFFER AT EXIT, by the run: what `graph_left` comes to in each case.
-use Rattle.std.specs.Prelude.{ℕ, ◌-◌, ◌≤◌, ◌<◌, ◌≡◌, List, ◌++◌, length, replicate}
+use Rattle.std.specs.Prelude.{ℕ, ◌-◌, ◌≤◌, ◌<◌, ◌≡◌, List, ◌++◌, length, replicate, Ok, Err}
 use Rattle.schedule.specs.Graph.{Graph}
 use Rattle.schedule.specs.Algebra.{graphs}
 use Rattle.schedule.specs.FrameMachine.{Place}
 use Rattle.schedule.specs.Machine.{Ending, value, stop, RunCounts, ended, Schedule}
 use Rattle.schedule.specs.Runs.{outcome}
 use Rattle.table.specs.declared.Refusal.{Refusal}
-use Rattle.table.specs.declared.Reading.TheVariants as reading
 use Rattle.graph.specs.Words.{written}
 use Rattle.language.specs.declared.Stop.{Stop}
 use Rattle.language.specs.declared.Answer.TheVariants.{Stopped, Refused}
@@ -22,12 +21,12 @@ LeftLong = (m : Schedule) (w arguments : List ℕ) (fuel N τ workspace : ℕ) (
 
 -- The check accepts, and the run comes to this.
 pub record RanTo (m : Schedule) (w arguments : List ℕ) (fuel N τ workspace : ℕ) (z : Ending) (g : Graph) (t : RunCounts) : Type 0 where
-  pub accepted : checked_of w (length arguments) fuel N τ workspace ≡ reading.Accepted
+  pub accepted : checked_of w (length arguments) fuel N τ workspace ≡ Ok tt
   pub is : outcome graphs (language w) fuel (frames_in workspace) m (entry_code arguments) ≡ ended z g t
 
 -- 02: "The words after the graph are zero, and all are zero after a stop.", 25 too. "A refused call leaves the buffer as found."
 pub record Left (m : Schedule) (w arguments : List ℕ) (fuel N τ workspace : ℕ) (found : List ℕ) : Type 0 where
-  pub at_refusal : (r : Refusal) → checked_of w (length arguments) fuel N τ workspace ≡ reading.Refused r
+  pub at_refusal : (r : Refusal) → checked_of w (length arguments) fuel N τ workspace ≡ Err r
       → graph_left m w arguments fuel N τ workspace found ≡ found
   pub at_value : (v : ℕ) (g : Graph) (t : RunCounts) → RanTo m w arguments fuel N τ workspace (value v) g t → length (written g) ≤ length found
       → graph_left m w arguments fuel N τ workspace found ≡ written g ++ replicate (length found - length (written g)) 0

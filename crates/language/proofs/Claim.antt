@@ -4,8 +4,8 @@ use mathlib.Core.Path.{◌≡◌, refl, ap, ◌∙◌}
 use mathlib.Core.List.{List}
 use native.Mathlib.Omega.{arith}
 use lib.ListN.{length}
-use Rattle.table.specs.declared.Reading.{Reading}
-use Rattle.table.specs.declared.Reading.TheVariants as reading
+use Rattle.std.specs.Prelude.{Ok, Err}
+use Rattle.table.specs.Read.{Reading}
 use Rattle.schedule.specs.Graph.{Graph, work, span}
 use Rattle.schedule.specs.Algebra.{graphs}
 use Rattle.schedule.specs.FrameMachine.{Place}
@@ -69,10 +69,10 @@ module _ (w arguments : List ℕ) (fuel N τ workspace : ℕ) where
       → after_check r (ran_by sequential) ≡ Value v a
       → FourStatements N τ v a (after_check r (ran_by parallel)) (after_check r (ran_by (heartbeat N)))
   unfolding after_check run_of
-  of_check v a reading.Accepted e q =
+  of_check v a (Ok _) e q =
       let admitted = (checked_iff w (length arguments) fuel N τ workspace).0 e in
       of_run w arguments fuel N τ workspace admitted.period.least admitted.tau.least v a _ refl q
-  of_check v a (reading.Refused r) e q = let no : ◌≡◌ {A = ℕ} 0 1 = cc in absurd (omega arith)
+  of_check v a (Err r) e q = absurd cc
 
 -- THE CLAIM
 pub claim : ForEveryInput
@@ -101,8 +101,8 @@ module _ (m : Schedule) (w arguments : List ℕ) (fuel τ workspace v : ℕ) (a 
   depth_of_check : (r : Reading) → after_check r (run_of sequential w arguments fuel τ workspace) ≡ Value v a
       → deepest_of (after_check r (run_of m w arguments fuel τ workspace)) ≡ a.deepest
   unfolding after_check run_of
-  depth_of_check reading.Accepted q = depth_of_run _ refl q
-  depth_of_check (reading.Refused r) q = let no : ◌≡◌ {A = ℕ} 0 1 = cc in absurd (omega arith)
+  depth_of_check (Ok _) q = depth_of_run _ refl q
+  depth_of_check (Err r) q = absurd cc
 
   depth_of : (N : ℕ) → sequential_of w arguments fuel N τ workspace ≡ Value v a → deepest_of (answer_of m w arguments fuel N τ workspace) ≡ a.deepest
   unfolding answer_of
@@ -154,8 +154,8 @@ module _ (m : Schedule) (w arguments : List ℕ) (fuel τ workspace : ℕ) (s : 
   stop_of_check : (r : Reading) → after_check r (run_of sequential w arguments fuel τ workspace) ≡ Stopped s
       → SameStop s (after_check r (run_of m w arguments fuel τ workspace))
   unfolding after_check run_of
-  stop_of_check reading.Accepted q = stop_of_run _ refl q
-  stop_of_check (reading.Refused r) q = let no : ◌≡◌ {A = ℕ} 0 1 = cc in absurd (omega arith)
+  stop_of_check (Ok _) q = stop_of_run _ refl q
+  stop_of_check (Err r) q = absurd cc
 
   stop_of_answer : (N : ℕ) → sequential_of w arguments fuel N τ workspace ≡ Stopped s → SameStop s (answer_of m w arguments fuel N τ workspace)
   unfolding answer_of

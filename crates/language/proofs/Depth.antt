@@ -8,8 +8,8 @@ use mathlib.Core.List.{List, [], ◌∷◌, ◌++◌}
 use native.Mathlib.Omega.{arith}
 use lib.Dec.{ltb}
 use lib.ListN.{length}
-use Rattle.table.specs.declared.Reading.{Reading}
-use Rattle.table.specs.declared.Reading.TheVariants as reading
+use Rattle.std.specs.Prelude.{Ok, Err}
+use Rattle.table.specs.Read.{Reading}
 use Rattle.table.specs.declared.Node.{Node}
 use Rattle.table.specs.declared.Node.TheVariants.{Constant, Local, Arithmetic, Choose, Let, Call, Both, Unknown}
 use Rattle.table.specs.Words.{arity_at}
@@ -111,8 +111,8 @@ module _ (m : Schedule) (w arguments : List ℕ) (fuel τ : ℕ) where
 
   check_within : (workspace : ℕ) (r : Reading) → deepest_of (after_check r (run_of m w arguments fuel τ workspace)) ≤ frames_in workspace
   unfolding after_check deepest_of
-  check_within workspace reading.Accepted = run_within workspace
-  check_within workspace (reading.Refused r) = omega arith
+  check_within workspace (Ok _) = run_within workspace
+  check_within workspace (Err r) = omega arith
 
   full_run : (workspace : ℕ) (s : Stop) (o : Result graphs (language.language w)) → ran workspace ≡ o → told_by τ o ≡ Stopped s → s.number ≡ 21
       → s.deepest ≡ frames_in workspace
@@ -129,8 +129,8 @@ module _ (m : Schedule) (w arguments : List ℕ) (fuel τ : ℕ) where
   full_check : (workspace : ℕ) (s : Stop) (r : Reading) → after_check r (run_of m w arguments fuel τ workspace) ≡ Stopped s → s.number ≡ 21
       → s.deepest ≡ frames_in workspace
   unfolding after_check run_of
-  full_check workspace s reading.Accepted q h = full_run workspace s _ refl q h
-  full_check workspace s (reading.Refused r) q h = let no : ◌≡◌ {A = ℕ} 0 1 = cc in absurd (omega arith)
+  full_check workspace s (Ok _) q h = full_run workspace s _ refl q h
+  full_check workspace s (Err r) q h = absurd cc
 
 pub depths_within : DepthsWithin
 unfolding answer_of

@@ -6,9 +6,8 @@ use native.Mathlib.Omega.{arith}
 use native.Mathlib.Nat.{mul-add, add-mul, mul_left_comm, mul_assoc, mul-le-mul_left, mul-le-mul_right, le_of_mul-le-mul_left}
 use lib.ListN.{length}
 use borrow.Author.Tests.{le-leb, lt-leb}
-use Rattle.table.specs.declared.Reading.{Reading}
-use Rattle.table.specs.declared.Reading.TheVariants as reading
-use Rattle.table.specs.Read.{◌then◌}
+use Rattle.std.specs.Prelude.{Ok, Err}
+use Rattle.table.specs.Read.{Reading, ◌then◌}
 use Rattle.schedule.specs.Machine.{Schedule, sequential}
 use Rattle.language.specs.declared.Counts.{Counts}
 use Rattle.language.specs.declared.Answer.{Answer}
@@ -40,10 +39,10 @@ overhead_by k N τ x y positive far bound = le_of_mul-le-mul_left {k = N} times_
         )
 
 -- a value answers an input that was admitted
-value_accepted : (r : Reading) (x : Answer) (v : ℕ) (a : Counts) → after_check r x ≡ Value v a → r ≡ reading.Accepted
+value_accepted : (r : Reading) (x : Answer) (v : ℕ) (a : Counts) → after_check r x ≡ Value v a → r ≡ Ok tt
 unfolding after_check
-value_accepted reading.Accepted x v a e = refl
-value_accepted (reading.Refused r) x v a e = let no : ◌≡◌ {A = ℕ} 0 1 = cc in absurd (omega arith)
+value_accepted (Ok _) x v a e = refl
+value_accepted (Err r) x v a e = absurd cc
 
 pub value_admitted : (m : Schedule) (w arguments : List ℕ) (fuel N τ workspace v : ℕ) (a : Counts)
     → answer_of m w arguments fuel N τ workspace ≡ Value v a → Admitted w (length arguments) fuel N τ workspace

@@ -10,8 +10,8 @@ use native.Mathlib.Omega.{arith}
 use lib.Dec.{ltb, eqb}
 use lib.ListN.{length, length-append}
 use borrow.Author.Tests.{ltb-true}
-use Rattle.table.specs.declared.Reading.{Reading}
-use Rattle.table.specs.declared.Reading.TheVariants as reading
+use Rattle.std.specs.Prelude.{Ok, Err}
+use Rattle.table.specs.Read.{Reading}
 use Rattle.table.specs.declared.Operation.{Operation}
 use Rattle.table.specs.declared.Node.{Node}
 use Rattle.table.specs.declared.Node.TheVariants.{Constant, Local, Arithmetic, Choose, Let, Call, Both, Unknown}
@@ -253,8 +253,8 @@ module _ (m : Schedule) (w arguments : List ℕ) (fuel N τ workspace : ℕ) (s 
   checked_so : (r : Reading) → checked_of w (length arguments) fuel N τ workspace ≡ r
       → after_check r (run_of m w arguments fuel τ workspace) ≡ Stopped s → Listed w fuel s
   unfolding after_check run_of
-  checked_so reading.Accepted e q = ran_so ((checked_iff w (length arguments) fuel N τ workspace).0 e).table _ refl q
-  checked_so (reading.Refused r) e q = let no : ◌≡◌ {A = ℕ} 0 1 = cc in absurd (omega arith)
+  checked_so (Ok _) e q = ran_so ((checked_iff w (length arguments) fuel N τ workspace).0 e).table _ refl q
+  checked_so (Err r) e q = absurd cc
 
 pub stops_listed : StopsListed
 unfolding answer_of

@@ -4,9 +4,9 @@ use mathlib.Core.Path.{◌≡◌, refl, sym, ap, ◌∙◌}
 use mathlib.Core.List.{List}
 use native.Mathlib.Omega.{arith}
 use lib.ListN.{length}
+use Rattle.std.specs.Prelude.{Ok, Err}
 use Rattle.table.specs.declared.Refusal.{Refusal}
-use Rattle.table.specs.declared.Reading.{Reading}
-use Rattle.table.specs.declared.Reading.TheVariants as reading
+use Rattle.table.specs.Read.{Reading}
 use Rattle.schedule.specs.Graph.{Graph, work, span}
 use Rattle.schedule.specs.Algebra.{graphs, spans}
 use Rattle.schedule.specs.Machine as machine
@@ -46,12 +46,12 @@ module _ (w : List ℕ) (fuel frames τ : ℕ) (m : Schedule) (c : Code) where
 
 -- The answer by what the check says, as code has it.
 module _ (m : Schedule) (w arguments : List ℕ) (fuel N τ workspace : ℕ) where
-  pub answer_refused : (r : Refusal) → checked_of w (length arguments) fuel N τ workspace ≡ reading.Refused r
+  pub answer_refused : (r : Refusal) → checked_of w (length arguments) fuel N τ workspace ≡ Err r
       → Refused r ≡ answer_of m w arguments fuel N τ workspace
   unfolding answer_of after_check
   answer_refused r e = rw e
 
-  pub answer_run : checked_of w (length arguments) fuel N τ workspace ≡ reading.Accepted
+  pub answer_run : checked_of w (length arguments) fuel N τ workspace ≡ Ok tt
       → told_by_spans τ (outcome (spans τ) (language w) fuel (frames_in workspace) m (entry_code arguments))
       ≡ answer_of m w arguments fuel N τ workspace
   unfolding answer_of after_check run_of
@@ -74,8 +74,8 @@ ran_unrefused τ (ongoing s) r e = let z : ◌≡◌ {A = ℕ} 0 1 = cc in absur
 
 after_alike : (c : Reading) (a b : Answer) (r : Refusal) → (a ≡ Refused r → ⊥) → after_check c a ≡ Refused r → after_check c b ≡ Refused r
 unfolding after_check
-after_alike reading.Accepted a b r never e = absurd (never e)
-after_alike (reading.Refused q) a b r never e = e
+after_alike (Ok _) a b r never e = absurd (never e)
+after_alike (Err q) a b r never e = e
 
 pub refused_alike : RefusedAlike
 unfolding answer_of run_of

@@ -4,8 +4,8 @@ use mathlib.Core.Path.{◌≡◌, refl, ap}
 use mathlib.Core.List.{List}
 use native.Mathlib.Omega.{arith}
 use lib.ListN.{length}
-use Rattle.table.specs.declared.Reading.{Reading}
-use Rattle.table.specs.declared.Reading.TheVariants as reading
+use Rattle.std.specs.Prelude.{Ok, Err}
+use Rattle.table.specs.Read.{Reading}
 use Rattle.schedule.specs.Graph.{Graph, work, span}
 use Rattle.schedule.specs.Algebra.{graphs}
 use Rattle.schedule.specs.Machine as machine
@@ -49,8 +49,8 @@ module _ (m : Schedule) (w arguments : List ℕ) (fuel τ workspace v : ℕ) (a 
 
   checked_so : (r : Reading) → after_check r (run_of m w arguments fuel τ workspace) ≡ Value v a → Ran m w arguments fuel τ workspace v a
   unfolding after_check run_of
-  checked_so reading.Accepted q = ran_so _ refl q
-  checked_so (reading.Refused r) q = let no : ◌≡◌ {A = ℕ} 0 1 = cc in absurd (omega arith)
+  checked_so (Ok _) q = ran_so _ refl q
+  checked_so (Err r) q = absurd cc
 
   pub value_ran : (N : ℕ) → answer_of m w arguments fuel N τ workspace ≡ Value v a → Ran m w arguments fuel τ workspace v a
   unfolding answer_of

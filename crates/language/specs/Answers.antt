@@ -1,15 +1,14 @@
 -- What a machine answers, for every input (01, "Transitions", "Turned away by the input" and "Stopped by the run's state"). "Where an
 -- answer is an enum, a definition gives this paper's number and values for each of its cases, and the promises use that definition": it
 -- is `answer_of`.
-use Rattle.std.specs.Prelude.{ℕ, ◌+◌, ◌*◌, ◌≡◌, List, length}
+use Rattle.std.specs.Prelude.{ℕ, ◌+◌, ◌*◌, ◌≡◌, List, length, Ok, Err}
 use Rattle.schedule.specs.Graph.{Graph, work, span}
 use Rattle.schedule.specs.Algebra.{graphs}
 use Rattle.schedule.specs.FrameMachine.{Place}
 use Rattle.schedule.specs.Machine.{value, stop, Outcome, ended, ongoing, Schedule, sequential, parallel, heartbeat}
 use Rattle.schedule.specs.Runs.{outcome}
 use Rattle.table.specs.declared.Refusal.{Refusal}
-use Rattle.table.specs.declared.Reading.{Reading}
-use Rattle.table.specs.declared.Reading.TheVariants as reading
+use Rattle.table.specs.Read.{Reading}
 use Rattle.language.specs.declared.Counts.{Counts}
 use Rattle.language.specs.declared.Answer.{Answer}
 use Rattle.language.specs.declared.Answer.TheVariants.{Value, Stopped, Refused}
@@ -50,8 +49,8 @@ told_by_spans τ (ongoing s) = unfinished
 
 -- "Nothing runs" where the check refuses; the answer is then the refusal.
 unfoldable pub after_check : Reading → Answer → Answer
-after_check reading.Accepted answer = answer
-after_check (reading.Refused r) answer = Refused r
+after_check (Ok _) answer = answer
+after_check (Err r) answer = Refused r
 
 -- What a machine tells of an input that is accepted.
 unfoldable pub run_of : Schedule → List ℕ → List ℕ → ℕ → ℕ → ℕ → Answer

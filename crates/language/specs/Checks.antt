@@ -1,8 +1,7 @@
 -- The check of a machine's input (01, "Turned away by the input", 1 to 11; 02, P4, 16 to 18). "All three machines check all eleven."
 use Rattle.std.specs.Prelude.{ℕ, ◌/◌, ◌%◌, List, ◌&&◌, leb, eqb}
-use Rattle.table.specs.declared.Reading.{Reading}
 use Rattle.table.specs.Words.{arity_at}
-use Rattle.table.specs.Read.{◌then◌, unless, read_of}
+use Rattle.table.specs.Read.{Reading, ◌then◌, unless, read_of}
 
 -- n is least to most, both ends within; refused with the number, "both 0 for 1, 3 and 7 to 11", if it is not
 unfoldable pub range_of : ℕ → ℕ → ℕ → ℕ → Reading

@@ -1,7 +1,6 @@
 -- 02's P4 as the machines tell it: their check is the one of before, with 4, 16, 17 and 18 all read as 4.
 use Rattle.std.specs.Prelude.{ℕ, ◌≡◌, List}
-use Rattle.table.specs.declared.Reading.{Reading}
-use Rattle.table.specs.Read.{◌then◌}
+use Rattle.table.specs.Read.{Reading, ◌then◌}
 use Rattle.table.specs.Before.{read_before, read_as_four}
 use Rattle.language.specs.Checks.{arguments_of, settings_of, checked_of}
 

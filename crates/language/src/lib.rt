@@ -5,14 +5,14 @@
 
 #![tactic(auto)]
 
-ghost use Rattle.std.specs.Prelude.{◌≡◌, ◌↔◌, ◌<◌};
+ghost use Rattle.std.specs.Prelude.{◌≡◌, ◌↔◌, ◌<◌, Ok};
 ghost use Rattle.table.specs.Read.{refused};
 ghost use Rattle.language.specs.Checks.{range_of, workspace_of, settings_of, checked_of};
 ghost use Rattle.language.specs.Admitted.{Admitted};
 ghost use Rattle.language.specs.House.{House};
 
 use schedule::{Fuel, Span, Work};
-use table::{Reading, Refusal};
+use table::Refusal;
 
 // 01: "The counts are transitions, forks, work and span." 02, P7: they gain "the largest number of frames occupied at once", the depth.
 #[derive(Clone, Copy)]
@@ -73,10 +73,10 @@ impl Settings {
 }
 
 // A refusal that tells no function and no node: 01, "both 0 for 1, 3 and 7 to 11".
-fn refuse(number: u32) -> Reading
+fn refuse(number: u32) -> Result<(), Refusal>
     ensures { result ≡ refused number 0 0 }
 {
-    Reading::Refused(Refusal {
+    Err(Refusal {
         number,
         function: 0,
         node: 0,
@@ -84,20 +84,19 @@ fn refuse(number: u32) -> Reading
 }
 
 // Refused with the number unless least ≤ n ≤ most.
-fn in_range(n: u64, least: u64, most: u64, number: u32) -> Reading
+#[tactic(auto, unfolding(crate::specs::Checks::range_of))]
+fn in_range(n: u64, least: u64, most: u64, number: u32) -> Result<(), Refusal>
     ensures { result ≡ range_of n least most number }
 {
-    if n < least {
-        return refuse(number);
+    if (least..=most).contains(&n) {
+        Ok(())
+    } else {
+        refuse(number)
     }
-    if most < n {
-        return refuse(number);
-    }
-    Reading::Accepted
 }
 
 // Refusal 11, of a workspace of so many words.
-fn workspace_checked(words: usize) -> Reading
+fn workspace_checked(words: usize) -> Result<(), Refusal>
     ensures { result ≡ workspace_of words }
 {
     if words % 32 != 0 {
@@ -107,34 +106,27 @@ fn workspace_checked(words: usize) -> Reading
 }
 
 // Refusals 8 to 11: those that need no table.
-fn settings_checked(settings: Settings, workspace: usize) -> Reading
+fn settings_checked(settings: Settings, workspace: usize) -> Result<(), Refusal>
     ensures { result ≡ settings_of settings.fuel.0 settings.period settings.tau workspace }
 {
-    let fuel = in_range(settings.fuel.0, 1, 100000000, 8);
-    let Reading::Accepted = fuel else {
-        return fuel;
-    };
-    let period = in_range(settings.period, 1, 10000, 9);
-    let Reading::Accepted = period else {
-        return period;
-    };
-    let tau = in_range(settings.tau, 1, 10000, 10);
-    let Reading::Accepted = tau else {
-        return tau;
-    };
+    in_range(settings.fuel.0, 1, 100000000, 8)?;
+    in_range(settings.period, 1, 10000, 9)?;
+    in_range(settings.tau, 1, 10000, 10)?;
     workspace_checked(workspace)
 }
 
 // Accepted, or refused with its number, function and node: 01's refusals 1 to 11 and 02's 16 to 18, for any input. `arguments` and
 // `workspace` are lengths.
-pub fn checked(words: &[u32], arguments: usize, settings: Settings, workspace: usize) -> Reading
+pub fn checked(
+    words: &[u32],
+    arguments: usize,
+    settings: Settings,
+    workspace: usize,
+) -> Result<(), Refusal>
     ensures answer { result ≡ checked_of words.now arguments settings.fuel.0 settings.period settings.tau workspace }
-    ensures assures { (result ≡ Reading.Accepted) ↔ Admitted words.now arguments settings.fuel.0 settings.period settings.tau workspace }
+    ensures assures { (result ≡ Ok tt) ↔ Admitted words.now arguments settings.fuel.0 settings.period settings.tau workspace }
 {
-    let read = table::read(words);
-    let Reading::Accepted = read else {
-        return read;
-    };
+    table::read(words)?;
     if arguments != table::arity(words, 0) {
         return refuse(7);
     }

@@ -14,14 +14,14 @@ use native.Mathlib.Decide.{dec_lt}
 use lib.Dec.{leb}
 use borrow.Author.Tests.{leb-true}
 use lib.ListN.{length, replicate}
+use Rattle.std.specs.Prelude.{Ok, Err}
 use Rattle.schedule.specs.Graph.{Graph}
 use Rattle.schedule.specs.Algebra.{graphs}
 use Rattle.schedule.specs.Machine.{Schedule, Ending, value, stop, RunCounts, State, ended}
 use Rattle.schedule.specs.Runs.{outcome}
 use Rattle.schedule.proofs.Finish.{finishes}
 use Rattle.table.specs.declared.Refusal.{Refusal}
-use Rattle.table.specs.declared.Reading.{Reading}
-use Rattle.table.specs.declared.Reading.TheVariants as reading
+use Rattle.table.specs.Read.{Reading}
 use Rattle.graph.specs.Words.{written}
 use Rattle.language.specs.declared.Counts.{Counts}
 use Rattle.language.specs.declared.Answer.{Answer}
@@ -53,7 +53,7 @@ module _ (w arguments : List ℕ) (fuel N τ size asked : ℕ) (read : Reading) 
   checked_so : checked_of w (length arguments) fuel N τ size ≡ read
   checked_so = rw (← same) (sym told)
 
-  pub lends_run : read ≡ reading.Accepted → Admitted w (length arguments) fuel N τ asked → (plan : Plan) (graph : List ℕ) (words : ℕ) (graph' : List ℕ)
+  pub lends_run : read ≡ Ok tt → Admitted w (length arguments) fuel N τ asked → (plan : Plan) (graph : List ℕ) (words : ℕ) (graph' : List ℕ)
       → Wrote w arguments size plan graph words graph' → plan.fuel.0 ≡ fuel → Lends w arguments fuel N τ size plan.birth plan.period graph words graph'
   lends_run e a plan graph words graph' x f = record {
     long = x.long;
@@ -61,7 +61,7 @@ module _ (w arguments : List ℕ) (fuel N τ size asked : ℕ) (read : Reading) 
     holds = λ m suits c v g t o. x.holds m (rw f (suits a.fuel.most)) v g t (rw f o);
   }
 
-  pub lends_refusal : (r : Refusal) → read ≡ reading.Refused r → (birth : Bool) (pace : ℕ) (graph : List ℕ) → Lends w arguments fuel N τ size birth pace graph 1 graph
+  pub lends_refusal : (r : Refusal) → read ≡ Err r → (birth : Bool) (pace : ℕ) (graph : List ℕ) → Lends w arguments fuel N τ size birth pace graph 1 graph
   lends_refusal r e birth pace graph = record {
     long = refl;
     refused = λ r c. refl;
@@ -76,20 +76,20 @@ module _ (m : Schedule) (w arguments : List ℕ) (fuel N τ size : ℕ) (birth :
   checked = checked_of w (length arguments) fuel N τ size
 
   -- the answer without a buffer where the run ends in a value or a stop
-  answer_is : checked ≡ reading.Accepted → (z : Ending) (g : Graph) (t : RunCounts)
+  answer_is : checked ≡ Ok tt → (z : Ending) (g : Graph) (t : RunCounts)
       → outcome graphs (language w) fuel (frames_in size) m (entry_code arguments) ≡ ended z g t → answer ≡ told_by {X = State graphs (language w)} τ (ended z g t)
   unfolding answer_of after_check run_of
   answer_is c z g t o = tells m suits ∙ rw c (ap (told_by τ) o)
 
   -- a value's graph has words
-  some_words : checked ≡ reading.Accepted → (v : ℕ) (g : Graph) (t : RunCounts)
+  some_words : checked ≡ Ok tt → (v : ℕ) (g : Graph) (t : RunCounts)
       → outcome graphs (language w) fuel (frames_in size) m (entry_code arguments) ≡ ended (value v) g t → 0 < length (written g)
   unfolding told_by
   some_words c v g t o =
       omega (arith, never_empty m w arguments fuel N τ size v _ (sym (tells m suits) ∙ answer_is c (value v) g t o), needed_is m w arguments fuel size v g t o)
 
   -- the count serves
-  counted : checked ≡ reading.Accepted → (v : ℕ) (g : Graph) (t : RunCounts) → outcome graphs (language w) fuel (frames_in size) m (entry_code arguments) ≡ ended (value v) g t
+  counted : checked ≡ Ok tt → (v : ℕ) (g : Graph) (t : RunCounts) → outcome graphs (language w) fuel (frames_in size) m (entry_code arguments) ≡ ended (value v) g t
       → Serves (length found) words (length (written g))
   counted c v g t o = on (dec_lt 0 (length found))
     where
@@ -98,7 +98,7 @@ module _ (m : Schedule) (w arguments : List ℕ) (fuel N τ size : ℕ) (birth :
       on (no h) = inr (omega (arith, (lends.holds m suits c v g t o).none (omega arith)), omega (arith, some_words c v g t o))
 
   module _ (r : Graphed) (e : r ≡ fitted_of answer words (length graph)) where
-    refused_so : (f : Refusal) → checked ≡ reading.Refused f → r ≡ record { answer = Refused f; words = 0 }
+    refused_so : (f : Refusal) → checked ≡ Err f → r ≡ record { answer = Refused f; words = 0 }
     unfolding fitted_of
     refused_so f c = e ∙ rw (tells m suits ∙ sym (answer_refused m w arguments fuel N τ size f c))
 
@@ -106,15 +106,15 @@ module _ (m : Schedule) (w arguments : List ℕ) (fuel N τ size : ℕ) (birth :
     fitted_told = on checked refl
       where
         on : (c : Reading) → checked ≡ c → r ≡ graphed_of m w arguments fuel N τ size (length found)
-        on reading.Accepted c = e ∙ rw (lends.long, tells m suits) (as_fitted m w arguments fuel N τ size (length found) words (counted c))
-        on (reading.Refused f) c = refused_so f c ∙ unfold graphed_of after_check unless_refused in (rw c)
+        on (Ok _) c = e ∙ rw (lends.long, tells m suits) (as_fitted m w arguments fuel N τ size (length found) words (counted c))
+        on (Err f) c = refused_so f c ∙ unfold graphed_of after_check unless_refused in (rw c)
 
     module _ (left : List ℕ) (l : left ≡ cleared_by r graph) where
       -- by the answer
       left_so : (a : Answer) (n : ℕ) → r ≡ record { answer = a; words = n } → left ≡ cleared_to a n graph
       left_so a n i = l ∙ rw i
 
-      at_run : checked ≡ reading.Accepted → (z : Ending) (g : Graph) (t : RunCounts) → outcome graphs (language w) fuel (frames_in size) m (entry_code arguments) ≡ ended z g t
+      at_run : checked ≡ Ok tt → (z : Ending) (g : Graph) (t : RunCounts) → outcome graphs (language w) fuel (frames_in size) m (entry_code arguments) ≡ ended z g t
           → left ≡ graph_left m w arguments fuel N τ size found
       unfolding told_by fitted_of cleared_to
       at_run c (stop i p) g t o =
@@ -140,8 +140,8 @@ module _ (m : Schedule) (w arguments : List ℕ) (fuel N τ size : ℕ) (birth :
       cleared_left = on checked refl
         where
           on : (c : Reading) → checked ≡ c → left ≡ graph_left m w arguments fuel N τ size found
-          on reading.Accepted c = let z = finishes graphs (language w) fuel (frames_in size) m (entry_code arguments) in at_run c z.0 z.1.cost z.1.counts z.1.is
-          on (reading.Refused f) c =
+          on (Ok _) c = let z = finishes graphs (language w) fuel (frames_in size) m (entry_code arguments) in at_run c z.0 z.1.cost z.1.counts z.1.is
+          on (Err f) c =
               let here : cleared_to (Refused f) 0 graph ≡ found = unfold cleared_to in lends.refused f c in
               left_so (Refused f) 0 (refused_so f c) ∙ here ∙ sym (left_refused m w arguments fuel N τ size found f c)
 

@@ -13,11 +13,11 @@ use mathlib.Core.List.{List}
 use native.Mathlib.Omega.{arith}
 use lib.ListN.{length, take, drop, replicate, length-replicate}
 use lib.Seq.{paste, take-paste, take_all}
+use Rattle.std.specs.Prelude.{Ok, Err}
 use Rattle.schedule.specs.Graph.{Graph}
 use Rattle.schedule.specs.Machine.{Schedule, sequential, parallel, heartbeat, Outcome, ended, ongoing, value, stop}
 use Rattle.table.specs.declared.Refusal.{Refusal}
-use Rattle.table.specs.declared.Reading.{Reading}
-use Rattle.table.specs.declared.Reading.TheVariants as reading
+use Rattle.table.specs.Read.{Reading}
 use Rattle.language.specs.declared.Answer.{Answer}
 use Rattle.language.specs.declared.Answer.TheVariants.{Value, Stopped, Refused}
 use Rattle.language.specs.Checks.{checked_of}
@@ -52,20 +52,20 @@ zeroed ws ws' n r e l left = e ∙ ap (λ (k : ℕ). replicate k 0) l ∙ sym le
 
 -- `asked` are the words of the workspace that the check was told of
 module _ (w arguments : List ℕ) (fuel N τ size asked : ℕ) (read : Reading) (told : read ≡ checked_of w (length arguments) fuel N τ asked) where
-  pub tells_run : read ≡ reading.Accepted → Admitted w (length arguments) fuel N τ asked → asked ≡ size
+  pub tells_run : read ≡ Ok tt → Admitted w (length arguments) fuel N τ asked → asked ≡ size
       → (plan : Plan) (r : Answer) → Ran w arguments size plan r → plan.fuel.0 ≡ fuel → plan.tau ≡ τ
       → Tells w arguments fuel N τ size plan.birth plan.period r
   tells_run e a same plan r ran f t m h =
       (rw (f, t) at (ran.answers m (rw f (h a.fuel.most)))) ∙ answer_run m w arguments fuel N τ size (rw same at (sym told ∙ e))
 
-  pub tells_refusal : (f : Refusal) → read ≡ reading.Refused f → asked ≡ size
+  pub tells_refusal : (f : Refusal) → read ≡ Err f → asked ≡ size
       → (birth : Bool) (pace : ℕ) → Tells w arguments fuel N τ size birth pace (Refused f)
   tells_refusal f e same birth pace m h = answer_refused m w arguments fuel N τ size f (rw same at (sym told ∙ e))
 
 -- ONE WORKSPACE: by what the check says
 unfoldable left_after : Reading → List ℕ → List ℕ
-left_after reading.Accepted ws = replicate (length ws) 0
-left_after (reading.Refused r) ws = ws
+left_after (Ok _) ws = replicate (length ws) 0
+left_after (Err r) ws = ws
 
 told_left : {X : Type 0} (τ : ℕ) (o : Outcome Graph X) (ws : List ℕ) → left_by (told_by τ o) ws ≡ replicate (length ws) 0
 unfolding left_by told_by
@@ -75,8 +75,8 @@ told_left τ (ongoing s) ws = refl
 
 left_checked : {X : Type 0} (c : Reading) (τ : ℕ) (o : Outcome Graph X) (ws : List ℕ) → left_by (after_check c (told_by τ o)) ws ≡ left_after c ws
 unfolding after_check left_by left_after
-left_checked reading.Accepted τ o ws = told_left τ o ws
-left_checked (reading.Refused r) τ o ws = refl
+left_checked (Ok _) τ o ws = told_left τ o ws
+left_checked (Err r) τ o ws = refl
 
 left_answer : (m : Schedule) (w arguments : List ℕ) (fuel N τ size : ℕ) (ws : List ℕ)
     → left_by (answer_of m w arguments fuel N τ size) ws ≡ left_after (checked_of w (length arguments) fuel N τ size) ws
@@ -96,8 +96,8 @@ left_length (Refused r) ws = refl
 
 left_again : (c : Reading) (ws : List ℕ) → left_after c (left_after c ws) ≡ left_after c ws
 unfolding left_after
-left_again reading.Accepted ws = simp length-replicate
-left_again (reading.Refused r) ws = refl
+left_again (Ok _) ws = simp length-replicate
+left_again (Err r) ws = refl
 
 module _ (w arguments : List ℕ) (fuel N τ : ℕ) (ws ws₁ ws₂ ws₃ : List ℕ) (s p h : Answer) where
   pub all_three : s ≡ sequential_of w arguments fuel N τ (length ws) → ws₁ ≡ left_by s ws

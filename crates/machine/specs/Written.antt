@@ -1,12 +1,11 @@
 -- What the functions under the machines tell of the buffer that is lent for a run's cost graph.
-use Rattle.std.specs.Prelude.{ℕ, ◌-◌, ◌≤◌, ◌<◌, ◌≡◌, Bool, ◌⊎◌, List, ◌++◌, length, take, replicate}
+use Rattle.std.specs.Prelude.{ℕ, ◌-◌, ◌≤◌, ◌<◌, ◌≡◌, Bool, ◌⊎◌, List, ◌++◌, length, take, replicate, Ok, Err}
 use Rattle.schedule.specs.Graph.{Graph}
 use Rattle.schedule.specs.Algebra.{graphs}
 use Rattle.schedule.specs.Machine.{Schedule, value, RunCounts, ended}
 use Rattle.schedule.specs.Runs.{outcome}
 use Rattle.schedule.specs.Bounds.{Flags}
 use Rattle.table.specs.declared.Refusal.{Refusal}
-use Rattle.table.specs.declared.Reading.TheVariants as reading
 use Rattle.graph.specs.Words.{written}
 use Rattle.graph.specs.Writing.{count_ended, lent_ended}
 use Rattle.language.specs.declared.Stop.{Stop}
@@ -40,8 +39,8 @@ pub record Wrote (w arguments : List ℕ) (workspace : ℕ) (plan : Plan) (graph
 -- WHAT A MACHINE WRITES, for any input, of each schedule that the flags suit
 pub record Lends (w arguments : List ℕ) (fuel N τ workspace : ℕ) (birth : Bool) (pace : ℕ) (graph : List ℕ) (words : ℕ) (graph' : List ℕ) : Type 0 where
   pub long : length graph' ≡ length graph
-  pub refused : (r : Refusal) → checked_of w (length arguments) fuel N τ workspace ≡ reading.Refused r → graph' ≡ graph
-  pub holds : (m : Schedule) → Suits fuel m birth pace → checked_of w (length arguments) fuel N τ workspace ≡ reading.Accepted
+  pub refused : (r : Refusal) → checked_of w (length arguments) fuel N τ workspace ≡ Err r → graph' ≡ graph
+  pub holds : (m : Schedule) → Suits fuel m birth pace → checked_of w (length arguments) fuel N τ workspace ≡ Ok tt
       → (v : ℕ) (g : Graph) (t : RunCounts) → outcome graphs (language w) fuel (frames_in workspace) m (entry_code arguments) ≡ ended (value v) g t
       → Holds graph words graph' g
 

@@ -5,9 +5,9 @@ use mathlib.Core.Path.{◌≡◌, refl, ap, sym, ◌∙◌}
 use mathlib.Core.List.{List}
 use native.Mathlib.Omega.{arith}
 use lib.ListN.{length}
+use Rattle.std.specs.Prelude.{Ok, Err}
 use Rattle.table.specs.declared.Refusal.{Refusal}
-use Rattle.table.specs.declared.Reading.{Reading}
-use Rattle.table.specs.declared.Reading.TheVariants as reading
+use Rattle.table.specs.Read.{Reading}
 use Rattle.schedule.specs.Graph.{Graph, work, span}
 use Rattle.schedule.specs.Algebra.{graphs}
 use Rattle.schedule.specs.FrameMachine.{Place}
@@ -131,24 +131,24 @@ module _ (m : Schedule) (w arguments : List ℕ) (fuel N τ workspace : ℕ) whe
   ran_by = run_of m w arguments fuel τ workspace
 
   from_check : (v : ℕ) (k : Counts) (r : Reading) → checked_of w (length arguments) fuel N τ workspace ≡ r → after_check r ran_by ≡ Value v k
-      → (checked_of w (length arguments) fuel N τ workspace ≡ reading.Accepted) × Counted (judged m w arguments) fuel (frames_in workspace) τ
+      → (checked_of w (length arguments) fuel N τ workspace ≡ Ok tt) × Counted (judged m w arguments) fuel (frames_in workspace) τ
       v k
   unfolding after_check run_of
-  from_check v k reading.Accepted e q = (e, from_run m w arguments fuel τ workspace v k _ refl q)
-  from_check v k (reading.Refused r) e q = let no : ◌≡◌ {A = ℕ} 0 1 = cc in absurd (omega arith)
+  from_check v k (Ok _) e q = (e, from_run m w arguments fuel τ workspace v k _ refl q)
+  from_check v k (Err r) e q = absurd cc
 
   stop_from_check : (s : Stop) (r : Reading) → checked_of w (length arguments) fuel N τ workspace ≡ r → after_check r ran_by ≡ Stopped s
-      → (checked_of w (length arguments) fuel N τ workspace ≡ reading.Accepted) × stops_judged m w arguments fuel (frames_in workspace) s
+      → (checked_of w (length arguments) fuel N τ workspace ≡ Ok tt) × stops_judged m w arguments fuel (frames_in workspace) s
   unfolding after_check run_of
-  stop_from_check s reading.Accepted e q = (e, stop_from_run m w arguments fuel τ workspace s _ refl q)
-  stop_from_check s (reading.Refused r) e q = let no : ◌≡◌ {A = ℕ} 0 1 = cc in absurd (omega arith)
+  stop_from_check s (Ok _) e q = (e, stop_from_run m w arguments fuel τ workspace s _ refl q)
+  stop_from_check s (Err r) e q = absurd cc
 
-  refused_by_check : (f : Refusal) (r : Reading) → after_check r ran_by ≡ Refused f → r ≡ reading.Refused f
+  refused_by_check : (f : Refusal) (r : Reading) → after_check r ran_by ≡ Refused f → r ≡ Err f
   unfolding after_check run_of
-  refused_by_check f reading.Accepted q = absurd (ran_unrefused τ (outcome graphs (language w) fuel (frames_in workspace) m (entry_code arguments)) f q)
-  refused_by_check f (reading.Refused r) q = let e : r ≡ f = cc in ap reading.Refused e
+  refused_by_check f (Ok _) q = absurd (ran_unrefused τ (outcome graphs (language w) fuel (frames_in workspace) m (entry_code arguments)) f q)
+  refused_by_check f (Err r) q = let e : r ≡ f = cc in ap Err e
 
-  accepted : {r : Answer} → checked_of w (length arguments) fuel N τ workspace ≡ reading.Accepted → ran_by ≡ r
+  accepted : {r : Answer} → checked_of w (length arguments) fuel N τ workspace ≡ Ok tt → ran_by ≡ r
       → answer_of m w arguments fuel N τ workspace ≡ r
   unfolding answer_of after_check
   accepted e q = rw e q

@@ -5,7 +5,7 @@ use mathlib.Core.List.{List, ◌++◌}
 use native.Mathlib.Omega.{arith}
 use lib.ListN.{length, take, replicate}
 use lib.Seq.{take-append_seam, take_at}
-use Rattle.table.specs.declared.Reading.TheVariants as reading
+use Rattle.std.specs.Prelude.{Ok}
 use Rattle.schedule.specs.Algebra.{graphs}
 use Rattle.schedule.specs.Machine as machine
 use Rattle.schedule.specs.Machine.{value, ended, Schedule, sequential, parallel, heartbeat}
@@ -44,10 +44,10 @@ module _ (m : Schedule) (w arguments : List ℕ) (fuel N τ workspace : ℕ) whe
 
   -- Demand 2 of the answer without a buffer.
   value_derived : (v : ℕ) (k : Counts) → answer_of m w arguments fuel N τ workspace ≡ Value v k
-      → (checked_of w (length arguments) fuel N τ workspace ≡ reading.Accepted) × Counted J fuel (frames_in workspace) τ v k
+      → (checked_of w (length arguments) fuel N τ workspace ≡ Ok tt) × Counted J fuel (frames_in workspace) τ v k
   value_derived v k e = let c = (plain.value_iff v k).0 e in ((cc), at_frames c.1 (omega arith))
 
-  value_told : (v : ℕ) (k : Counts) → checked_of w (length arguments) fuel N τ workspace ≡ reading.Accepted
+  value_told : (v : ℕ) (k : Counts) → checked_of w (length arguments) fuel N τ workspace ≡ Ok tt
       → Counted J fuel (frames_in workspace) τ v k → answer_of m w arguments fuel N τ workspace ≡ Value v k
   value_told v k a c = (plain.value_iff v k).1 ((cc), at_frames c (omega arith))
 
@@ -72,7 +72,7 @@ module _ (m : Schedule) (w arguments : List ℕ) (fuel N τ workspace : ℕ) whe
     beside = as_without m w arguments fuel N τ workspace (length found)
 
     -- The buffer where a derivation's words fit.
-    leaves : {v : ℕ} (d : Reached v) → checked_of w (length arguments) fuel N τ workspace ≡ reading.Accepted
+    leaves : {v : ℕ} (d : Reached v) → checked_of w (length arguments) fuel N τ workspace ≡ Ok tt
         → length (words_of d.graph) ≤ length found
         → graph_left m w arguments fuel N τ workspace found ≡ words_of d.graph ++ replicate (length found - length (words_of d.graph)) 0
     leaves {v} d accepted fits = (buffer_left m w arguments fuel N τ workspace found).at_value v (flat d.graph) (run_counts d)

@@ -2,9 +2,8 @@
 -- figure's judgment derives that value within the fuel and the frames of the workspace; the counts in the answer are those of the derivation and of its
 -- cost graph. It answers a stop iff it accepts its input and the rules of stops beside that figure derive its number, its place, its transitions and its
 -- depth. It answers a refusal iff the check gives it. Judgments and stops are in crate `published`, specs/Judgments.antt and specs/Stops.antt, rule by rule.
-use Rattle.std.specs.Prelude.{ℕ, ◌≡◌, List, ◌↔◌, length}
+use Rattle.std.specs.Prelude.{ℕ, ◌≡◌, List, ◌↔◌, length, Ok, Err}
 use Rattle.table.specs.declared.Refusal.{Refusal}
-use Rattle.table.specs.declared.Reading.TheVariants as reading
 use Rattle.schedule.specs.FrameMachine.{Place}
 use Rattle.schedule.specs.Machine.{Schedule, sequential, parallel, heartbeat}
 use Rattle.language.specs.declared.Counts.{Counts}
@@ -41,12 +40,12 @@ stops_judged m w arguments fuel frames s = stops (language w) m (entry_code argu
 -- An answer r is that of a schedule's judgment.
 pub record Published (m : Schedule) (w arguments : List ℕ) (fuel N τ workspace : ℕ) (r : Answer) : Type 0 where
   pub value_iff : (v : ℕ) (k : Counts) → (r ≡ Value v k)
-      ↔ ((checked_of w (length arguments) fuel N τ workspace ≡ reading.Accepted)
+      ↔ ((checked_of w (length arguments) fuel N τ workspace ≡ Ok tt)
       × Counted (judged m w arguments) fuel (frames_in workspace) τ v k)
   pub stop_iff : (s : Stop)
-      → (r ≡ Stopped s) ↔ ((checked_of w (length arguments) fuel N τ workspace ≡ reading.Accepted)
+      → (r ≡ Stopped s) ↔ ((checked_of w (length arguments) fuel N τ workspace ≡ Ok tt)
       × stops_judged m w arguments fuel (frames_in workspace) s)
-  pub refusal_iff : (f : Refusal) → (r ≡ Refused f) ↔ (checked_of w (length arguments) fuel N τ workspace ≡ reading.Refused f)
+  pub refusal_iff : (f : Refusal) → (r ≡ Refused f) ↔ (checked_of w (length arguments) fuel N τ workspace ≡ Err f)
 
 pub record AllPublished (w arguments : List ℕ) (fuel N τ workspace : ℕ) : Type 0 where
   pub figure_4 : Published sequential w arguments fuel N τ workspace (sequential_of w arguments fuel N τ workspace)

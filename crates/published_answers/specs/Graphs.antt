@@ -1,9 +1,8 @@
 -- DEMAND 2 COVERS THE GRAPH (02, P1: "The accuracy rule now covers the graph"): all that a call with a buffer gives, by its cases. A machine answers a value
 -- and writes words iff it accepts its input, the figure's judgment derives the value within the fuel and the frames, and the words are those of the
 -- derivation's cost graph, and fit. Beside demand 2 without a buffer (Answers.antt) only stop 25 is new.
-use Rattle.std.specs.Prelude.{ℕ, ◌-◌, ◌≤◌, ◌<◌, ◌≡◌, List, ◌++◌, ◌↔◌, length, replicate}
+use Rattle.std.specs.Prelude.{ℕ, ◌-◌, ◌≤◌, ◌<◌, ◌≡◌, List, ◌++◌, ◌↔◌, length, replicate, Ok, Err}
 use Rattle.table.specs.declared.Refusal.{Refusal}
-use Rattle.table.specs.declared.Reading.TheVariants as reading
 use Rattle.schedule.specs.Machine.{Schedule, sequential, parallel, heartbeat}
 use Rattle.graph.specs.Words.{written}
 use Rattle.graph.specs.Lent.{nowhere}
@@ -31,7 +30,7 @@ pub record GivesGraph (lent : ℕ) (r : Graphed) (left : List ℕ) (v : ℕ) (k 
 
 module _ (m : Schedule) (w arguments : List ℕ) (fuel N τ workspace lent : ℕ) where
   abbrev Accepts : Type 0
-  Accepts = checked_of w (length arguments) fuel N τ workspace ≡ reading.Accepted
+  Accepts = checked_of w (length arguments) fuel N τ workspace ≡ Ok tt
 
   -- Its derivation, whose graph has these words.
   pub record DerivesGraph (v : ℕ) (k : Counts) (ws : List ℕ) : Type 0 where
@@ -54,10 +53,10 @@ pub record PublishedGraph (m : Schedule) (w arguments : List ℕ) (fuel N τ wor
   pub value_iff : (v : ℕ) (k : Counts) (ws : List ℕ)
       → GivesGraph (length found) r left v k ws ↔ DerivesGraph m w arguments fuel N τ workspace (length found) v k ws
   pub stop_iff : (s : Stop) → (s.number ≡ 25 → ⊥)
-      → (r.answer ≡ Stopped s) ↔ ((checked_of w (length arguments) fuel N τ workspace ≡ reading.Accepted)
+      → (r.answer ≡ Stopped s) ↔ ((checked_of w (length arguments) fuel N τ workspace ≡ Ok tt)
       × stops_judged m w arguments fuel (frames_in workspace) s)
   pub at_25_iff : (s : Stop) → s.number ≡ 25 → (r.answer ≡ Stopped s) ↔ DerivesTooLong m w arguments fuel N τ workspace (length found) s
-  pub refusal_iff : (f : Refusal) → (r.answer ≡ Refused f) ↔ (checked_of w (length arguments) fuel N τ workspace ≡ reading.Refused f)
+  pub refusal_iff : (f : Refusal) → (r.answer ≡ Refused f) ↔ (checked_of w (length arguments) fuel N τ workspace ≡ Err f)
   -- "all are zero after a stop. A refused call leaves the buffer as found."
   pub after_stop : (s : Stop) → r.answer ≡ Stopped s → (r.words ≡ 0) × (left ≡ replicate (length found) 0)
   pub after_refusal : (f : Refusal) → r.answer ≡ Refused f → (r.words ≡ 0) × (left ≡ found)

@@ -1,5 +1,4 @@
 -- Laws about the definitions of specs/, which this crate's proofs cite and other crates' may.
-pub mod Tags
 pub mod Shapes
 pub mod Walking
 pub mod Bodies

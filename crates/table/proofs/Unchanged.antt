@@ -4,30 +4,26 @@ use mathlib.Core.Path.{◌≡◌, refl, sym, ap, ◌∙◌}
 use mathlib.Core.List.{List}
 use mathlib.Core.Bool.{Bool, true, false, cond}
 use mathlib.Core.Logic.{◌↔◌}
-use native.Mathlib.Omega.{arith}
 use lib.ListN.{length}
 use lib.Dec.{leb, eqb}
+use Rattle.std.specs.Prelude.{Some, None, Ok, Err}
 use Rattle.table.specs.declared.Body.{Body}
 use Rattle.table.specs.declared.Shape.{Shape}
-use Rattle.table.specs.declared.Reading.{Reading}
-use Rattle.table.specs.declared.Reading.TheVariants.{Accepted, Refused}
-use Rattle.table.specs.declared.Walked.{Walked}
-use Rattle.table.specs.declared.Walked.TheVariants.{End, Fault}
 use Rattle.table.specs.Words.{functions, arity_at, nodes_at, start_of, body_at}
-use Rattle.table.specs.Walk.{shape_at, number_of, next, after_first, children, own, walk_of}
-use Rattle.table.specs.Read.{◌then◌, unless, header_test, header, entry_test, entry, exact, root_of, body_read, each, contents, bodies, read_of}
+use Rattle.table.specs.Walk.{Walked, fault_at, shape_at, number_of, next, after_first, children, own, walk_of}
+use Rattle.table.specs.Read.{Reading, ◌then◌, unless, header_test, header, entry_test, entry, exact, root_of, body_read, each, contents, bodies, read_of}
 use Rattle.table.specs.Before.{number_before, next_before, after_first_before, children_before, walk_before, root_before, body_before, read_before, as_four, read_as_four, Unchanged, AcceptedBefore}
 use Rattle.table.proofs.Acceptance.{read_iff}
 
 walk_as_four : Walked → Walked
-walk_as_four (End q) = End q
-walk_as_four (Fault number q) = Fault (as_four number) q
+walk_as_four (Ok q) = Ok q
+walk_as_four (Err fault) = fault_at (as_four fault.number) fault.node
 
 own_unchanged : (s : Shape) (level p : ℕ) (rest : Walked) → walk_as_four (own (number_of s level) p rest) ≡ own (number_before s level) p (walk_as_four rest)
 unfolding walk_as_four own
 own_unchanged s level p rest = at s.known s.clear s.bound (leb level 64)
   where
-    at : (x y z l : Bool) → walk_as_four (own (cond x (cond y (cond z (cond l 0 6) 5) 16) 4) p rest) ≡ own (cond x (cond y (cond z (cond l 0 6) 5) 4) 4) p (walk_as_four rest)
+    at : (x y z l : Bool) → walk_as_four (own (cond x (cond y (cond z (cond l None (Some 6)) (Some 5)) (Some 16)) (Some 4)) p rest) ≡ own (cond x (cond y (cond z (cond l None (Some 6)) (Some 5)) (Some 4)) (Some 4)) p (walk_as_four rest)
     at true true true true = refl
     at true true true false = refl
     at true true false l = refl
@@ -36,10 +32,10 @@ own_unchanged s level p rest = at s.known s.clear s.bound (leb level 64)
 
 next_unchanged : (b p : ℕ) (r rest : Walked) → walk_as_four (next b p r rest) ≡ next_before b p (walk_as_four r) (walk_as_four rest)
 unfolding walk_as_four next next_before
-next_unchanged b p (Fault number q) rest = refl
-next_unchanged b p (End m) rest = at (eqb b m)
+next_unchanged b p (Err fault) rest = refl
+next_unchanged b p (Ok m) rest = at (eqb b m)
   where
-    at : (t : Bool) → walk_as_four (cond t rest (Fault 17 p)) ≡ cond t (walk_as_four rest) (Fault 4 p)
+    at : (t : Bool) → walk_as_four (cond t rest (fault_at 17 p)) ≡ cond t (walk_as_four rest) (fault_at 4 p)
     at true = refl
     at false = refl
 
@@ -64,14 +60,14 @@ module _ (w : List ℕ) (body : Body) where
       s : Shape
       s = shape_at w body.start p k
 
-      at : (n : ℕ) → as_four n ≡ 4 → (x y : Walked) (t : Bool) → walk_as_four x ≡ y → walk_as_four (cond t (Fault n p) x) ≡ cond t (Fault 4 p) y
-      at n four x y true e = ap (λ m. Fault m p) four
+      at : (n : ℕ) → as_four n ≡ 4 → (x y : Walked) (t : Bool) → walk_as_four x ≡ y → walk_as_four (cond t (fault_at n p) x) ≡ cond t (fault_at 4 p) y
+      at n four x y true e = ap (λ m. fault_at m p) four
       at n four x y false e = e
 
 root_unchanged : (nodes f : ℕ) (r : Walked) → read_as_four (root_of nodes f r) ≡ root_before nodes f (walk_as_four r)
 unfolding walk_as_four read_as_four root_of root_before
-root_unchanged nodes f (Fault number q) = refl
-root_unchanged nodes f (End q) = at (eqb q nodes)
+root_unchanged nodes f (Err fault) = refl
+root_unchanged nodes f (Ok q) = at (eqb q nodes)
   where
     at : (t : Bool) → read_as_four (unless t 18 f q) ≡ unless t 4 f q
     at true = refl
@@ -80,8 +76,8 @@ root_unchanged nodes f (End q) = at (eqb q nodes)
 -- the parts in order
 pub then_unchanged : (a b : Reading) → read_as_four (a then b) ≡ (read_as_four a then read_as_four b)
 unfolding read_as_four ◌then◌
-then_unchanged Accepted b = refl
-then_unchanged (Refused r) b = refl
+then_unchanged (Ok _) b = refl
+then_unchanged (Err r) b = refl
 
 each_unchanged : (told before : ℕ → Reading) → ((f : ℕ) → read_as_four (told f) ≡ before f) → (n f : ℕ) → read_as_four (each told n f) ≡ each before n f
 unfolding read_as_four each
@@ -111,10 +107,10 @@ pub unchanged : Unchanged
 unfolding read_of bodies read_before
 unchanged w = rw (then_unchanged (header w) (contents w then bodies w), then_unchanged (contents w) (bodies w), header_unchanged w, contents_unchanged w, each_unchanged (body_read w) (body_before w) (body_unchanged w) (functions w) 0)
 
-accepted_as_four : (r : Reading) → (read_as_four r ≡ Accepted) ↔ (r ≡ Accepted)
+accepted_as_four : (r : Reading) → (read_as_four r ≡ Ok tt) ↔ (r ≡ Ok tt)
 unfolding read_as_four
-accepted_as_four Accepted = ((λ e. refl), (λ e. refl))
-accepted_as_four (Refused r) = ((λ e. let z : ◌≡◌ {A = ℕ} 0 1 = cc in absurd (omega arith)), (λ e. let z : ◌≡◌ {A = ℕ} 0 1 = cc in absurd (omega arith)))
+accepted_as_four (Ok _) = ((λ e. refl), (λ e. refl))
+accepted_as_four (Err r) = ((λ e. absurd cc), (λ e. absurd cc))
 
 pub accepted_before : AcceptedBefore
 accepted_before w = ((λ e. (read_iff w).0 ((accepted_as_four (read_of w)).0 (unchanged w ∙ e))), (λ h. sym (unchanged w) ∙ (accepted_as_four (read_of w)).1 ((read_iff w).1 h)))

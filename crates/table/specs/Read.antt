@@ -1,25 +1,27 @@
 -- The reader's answer (01, "Turned away by the input", 1 to 6; 02, P4, 16 to 18).
-use Rattle.std.specs.Prelude.{ℕ, zero, suc, ◌+◌, ◌*◌, List, [], ◌∷◌, Bool, cond, ◌&&◌, length, ltb, leb, eqb}
-use Rattle.table.specs.declared.Reading.{Reading}
-use Rattle.table.specs.declared.Reading.TheVariants.{Accepted, Refused}
-use Rattle.table.specs.declared.Walked.{Walked}
-use Rattle.table.specs.declared.Walked.TheVariants.{End, Fault}
+use Rattle.std.specs.Prelude.{ℕ, zero, suc, ◌+◌, ◌*◌, List, [], ◌∷◌, Bool, cond, ◌&&◌, length, ltb, leb, eqb, Result, Ok, Err}
+use Rattle.table.specs.declared.Fault.{Fault}
+use Rattle.table.specs.declared.Refusal.{Refusal}
 use Rattle.table.specs.Words.{functions, arity_at, nodes_at, nodes_before, start_of, body_at}
-use Rattle.table.specs.Walk.{walk_of}
+use Rattle.table.specs.Walk.{Walked, walk_of}
 
 infixr 20 ◌then◌
+-- the reader's answer: accepted, or refused
+abbrev pub Reading : Type 0
+Reading = Result (Unit {0}) Refusal
+
 -- "The answer is the number with function and node"
 abbrev pub refused : ℕ → ℕ → ℕ → Reading
-refused number function node = Refused (record { number = number; function = function; node = node })
+refused number function node = Err (record { number = number; function = function; node = node })
 
 -- a refusal ends the reading
 unfoldable pub ◌then◌ : Reading → Reading → Reading
-◌then◌ Accepted rest = rest
-◌then◌ (Refused r) rest = Refused r
+◌then◌ (Ok _) rest = rest
+◌then◌ (Err r) rest = Err r
 
 -- refused with that number, function and node unless the test holds
 abbrev pub unless : Bool → ℕ → ℕ → ℕ → Reading
-unless test number function node = cond test Accepted (refused number function node)
+unless test number function node = cond test (Ok tt) (refused number function node)
 
 -- "1. No word, F not 1 to 64, or fewer than 1 + 2F words."
 abbrev pub header_test : List ℕ → Bool
@@ -39,18 +41,22 @@ entry w f = unless (entry_test w f) 2 f 0
 unfoldable pub exact : List ℕ → Reading
 exact w = unless (eqb (length w) (start_of w (functions w))) 3 0 0
 
+-- a fault in the body of a function, with that function
+abbrev pub refusal_of : ℕ → Fault → Refusal
+refusal_of function fault = record { number = fault.number; function = function; node = fault.node }
+
 -- the walk of f's root, at level 1 with the arguments bound. P4: "the running on after the root", with 18; it is told at the position
 -- where the root's tree ends
 unfoldable pub root_of : ℕ → ℕ → Walked → Reading
-root_of nodes f (End q) = unless (eqb q nodes) 18 f q
-root_of nodes f (Fault number q) = refused number f q
+root_of nodes f (Ok q) = unless (eqb q nodes) 18 f q
+root_of nodes f (Err fault) = Err (refusal_of f fault)
 
 unfoldable pub body_read : List ℕ → ℕ → Reading
 body_read w f = root_of (nodes_at w f) f (walk_of (nodes_at w f) w (body_at w f) 1 0 (arity_at w f))
 
 -- "It takes functions in order": what functions f, f + 1 and so on tell, n of them
 unfoldable pub each : (ℕ → Reading) → ℕ → ℕ → Reading
-each told zero f = Accepted
+each told zero f = Ok tt
 each told (suc n) f = told f then each told n (f + 1)
 
 unfoldable pub contents : List ℕ → Reading

@@ -1,13 +1,19 @@
 -- The walk of a body (01, "The job table", its last paragraph), with the refusals 4, 5 and 6 and those of 02's P4: 16, 17 and 18.
-use Rattle.std.specs.Prelude.{ℕ, zero, suc, ◌+◌, ◌*◌, ◌<◌, ◌≤◌, ◌≡◌, List, [], ◌∷◌, Bool, true, false, cond, ◌&&◌, length, get_or, ltb, leb, eqb}
+use Rattle.std.specs.Prelude.{ℕ, zero, suc, ◌+◌, ◌*◌, ◌<◌, ◌≤◌, ◌≡◌, List, [], ◌∷◌, Bool, true, false, cond, ◌&&◌, length, get_or, ltb, leb, eqb, Option, Some, None, Result, Ok, Err}
 use Rattle.table.specs.declared.Node.{Node}
 use Rattle.table.specs.declared.Node.TheVariants.{Constant, Local, Arithmetic, Choose, Let, Call, Both, Unknown}
 use Rattle.table.specs.declared.Body.{Body}
 use Rattle.table.specs.declared.Shape.{Shape}
-use Rattle.table.specs.declared.Walked.{Walked}
-use Rattle.table.specs.declared.Walked.TheVariants.{End, Fault}
+use Rattle.table.specs.declared.Fault.{Fault}
 use Rattle.table.specs.Words.{functions, arity_at, a_at, b_at, c_at}
 use Rattle.table.specs.Nodes.{node_at}
+
+-- where the walk of a subtree ends: at the position after it, or at a fault, with its number and the node that is told
+abbrev pub Walked : Type 0
+Walked = Result ℕ Fault
+
+abbrev pub fault_at : ℕ → ℕ → Walked
+fault_at number node = Err (record { number = number; node = node })
 
 abbrev pub is_zero : ℕ → Bool
 is_zero x = eqb x 0
@@ -46,15 +52,15 @@ shape_of w a b c k Unknown = unknown k
 abbrev pub shape_at : List ℕ → ℕ → ℕ → ℕ → Shape
 shape_at w s p k = shape_of w (a_at w s p) (b_at w s p) (c_at w s p) k (node_at w s p)
 
--- P4: at a node "4, 16, 5 and 6", where 16 is "an unused word that is not 0" and 6 is 01's "Level above 64"; 0 where none is refused
-abbrev pub number_of : Shape → ℕ → ℕ
-number_of s level = cond s.known (cond s.clear (cond s.bound (cond (leb level 64) 0 6) 5) 16) 4
+-- P4: at a node "4, 16, 5 and 6", where 16 is "an unused word that is not 0" and 6 is 01's "Level above 64"; none where it is not refused
+abbrev pub number_of : Shape → ℕ → Option ℕ
+number_of s level = cond s.known (cond s.clear (cond s.bound (cond (leb level 64) None (Some 6)) (Some 5)) (Some 16)) (Some 4)
 
 -- after a child of the node at p: its end is the position b that the node gives for its next child, or the walk ends there with
 -- "17, a wrong child position" (P4), "told at the parent" (01); a fault in the child is told as it is
 unfoldable pub next : ℕ → ℕ → Walked → Walked → Walked
-next b p (End m) rest = cond (eqb b m) rest (Fault 17 p)
-next b p (Fault number q) rest = Fault number q
+next b p (Ok m) rest = cond (eqb b m) rest (fault_at 17 p)
+next b p (Err fault) rest = Err fault
 
 -- "first child; b compared; second child; c compared; third child", where `sub` walks the subtree at a position with a number of
 -- locals bound: of a node with n + 2 children, those after the first; and of a node with n. The last child has `last` locals bound
@@ -64,23 +70,23 @@ after_first sub b c p k last zero = sub b last
 after_first sub b c p k last (suc n) = next c p (sub b k) (sub c last)
 
 unfoldable pub children : (ℕ → ℕ → Walked) → ℕ → ℕ → ℕ → ℕ → ℕ → ℕ → Walked
-children sub b c p k last zero = End (p + 1)
+children sub b c p k last zero = Ok (p + 1)
 children sub b c p k last (suc zero) = sub (p + 1) k
 children sub b c p k last (suc (suc n)) = next b p (sub (p + 1) k) (after_first sub b c p k last n)
 
--- "the node's own words" first: a number other than 0 is told at the node
-unfoldable pub own : ℕ → ℕ → Walked → Walked
-own zero p rest = rest
-own (suc n) p rest = Fault (suc n) p
+-- "the node's own words" first: a number that refuses them is told at the node
+unfoldable pub own : Option ℕ → ℕ → Walked → Walked
+own None p rest = rest
+own (Some number) p rest = fault_at number p
 
 -- "The walk goes from a node into its children and returns the position after the subtree": of the subtree at p, with k locals
 -- bound, at a level. P4: "an early end is found first", with 18, "a body that ends early or runs on"; it is told at the position
 -- after its last node. `bound` bounds the nodes that remain.
 unfoldable pub walk_of : ℕ → List ℕ → Body → ℕ → ℕ → ℕ → Walked
-walk_of zero w body level p k = Fault 18 p
+walk_of zero w body level p k = fault_at 18 p
 walk_of (suc bound) w body level p k =
     cond (leb body.nodes p)
-    (Fault 18 p)
+    (fault_at 18 p)
     (own (number_of (shape_at w body.start p k) level) p
     (children (walk_of bound w body (level + 1)) (b_at w body.start p) (c_at w body.start p) p k (shape_at w body.start p k).last (shape_at w body.start p k).children))
 
@@ -92,4 +98,4 @@ pub record Readable (w : List ℕ) (body : Body) : Type 0 where
 -- what a call of the walk tells: the definition's answer, at every bound that is large enough; and that it moves on in the body
 pub record Walks (w : List ℕ) (body : Body) (level p k : ℕ) (r : Walked) : Type 0 where
   pub same : (bound : ℕ) → body.nodes ≤ p + bound → r ≡ walk_of bound w body level p k
-  pub moves : (q : ℕ) → r ≡ End q → (p < q) × (q ≤ body.nodes)
+  pub moves : (q : ℕ) → r ≡ Ok q → (p < q) × (q ≤ body.nodes)

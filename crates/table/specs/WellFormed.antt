@@ -1,5 +1,5 @@
 -- What an accepted table assures: all that a machine knows of a table.
-use Rattle.std.specs.Prelude.{ℕ, suc, ◌+◌, ◌*◌, ◌<◌, ◌≤◌, ◌≡◌, List, length}
+use Rattle.std.specs.Prelude.{ℕ, suc, ◌+◌, ◌*◌, ◌<◌, ◌≤◌, ◌≡◌, List, length, None}
 use Rattle.table.specs.declared.Operation.{Operation}
 use Rattle.table.specs.declared.Node.{Node}
 use Rattle.table.specs.declared.Node.TheVariants.{Constant, Local, Arithmetic, Choose, Let, Call, Both}
@@ -11,7 +11,7 @@ module _ (w : List ℕ) (body : Body) where
   mutual
     -- the subtree at p, with k locals bound, at a level, ends at q: its root is inside the body and no number refuses it
     pub data Subtree : ℕ → ℕ → ℕ → ℕ → Type 0 where
-      root : {level p k q : ℕ} → p < body.nodes → number_of (shape_at w body.start p k) level ≡ 0
+      root : {level p k q : ℕ} → p < body.nodes → number_of (shape_at w body.start p k) level ≡ None
           → Children (level + 1) p k (shape_at w body.start p k).last q (b_at w body.start p) (c_at w body.start p) (shape_at w body.start p k).children
           → Subtree level p k q
 

@@ -5,7 +5,7 @@
 
 ghost use Rattle.std.specs.Prelude.{◌≡◌, ◌+◌, ◌≤◌, ◌<◌, length};
 
-use table::Reading;
+use table::Refusal;
 
 // The words of a line so far, and the number that is being read, if one is.
 #[derive(Clone, Copy)]
@@ -94,12 +94,12 @@ fn write_number(name: &[u8], n: usize) {
     io::print_decimal(1, n as u64);
 }
 
-fn write_reading(reading: Reading) {
+fn write_reading(reading: Result<(), Refusal>) {
     match reading {
-        Reading::Accepted => {
+        Ok(()) => {
             io::write_all(1, b"accepted\n");
         }
-        Reading::Refused(refusal) => {
+        Err(refusal) => {
             write_number(b"refused ", refusal.number as usize);
             write_number(b" function ", refusal.function);
             write_number(b" node ", refusal.node);

@@ -1,5 +1,4 @@
--- `table::bodies_read` meets its contract, by the laws of Bodies, InOrder.
-use Prim.Native.Nat.{◌≤◌, ◌-◌}
+-- The bodies before f are good, and f's begins at `start`.
 use mathlib.Core.Path.{◌≡◌}
 use Rattle.table.specs.Words.{functions as functionsOf, start_of}
 use Rattle.table.specs.Read.{body_read}
@@ -7,7 +6,7 @@ use Rattle.table.proofs.InOrder.{Reached}
 use Rattle.table.proofs.bodies_read.Given as goal
 
 abbrev pub invariant-loop-f : goal.invariant-loop-f
-invariant-loop-f l = (l.f ≤ functionsOf l.words) × (l.start ≡ start_of l.words l.f) × Reached (body_read l.words) (functionsOf l.words) l.f
-
-abbrev pub decreases-loop-f : goal.decreases-loop-f
-decreases-loop-f l = l.functions - l.f
+invariant-loop-f l = record {
+  start : l.start ≡ start_of l.words l.f;
+  reached : Reached (body_read l.words) (functionsOf l.words) l.f;
+}

@@ -7,23 +7,23 @@ use Rattle.table.proofs.Acceptance.{body_answer}
 use Rattle.table.proofs.Bodies.{body_inside}
 use Rattle.table.proofs.body_read.Goals as goal
 
-pub walk-walked-requires : goal.walk-walked-requires
-walk-walked-requires c =
+pub walk-requires : goal.walk-requires
+walk-requires c =
     let w = c.args.words.now in
     let l = c.requires in
     omega (arith, body_inside w l.contents c.args.f l.function, (l.contents.entries c.args.f l.function).arity)
 
-pub returns-then-q-n : goal.returns-then-q-n
+pub returns-in-Ok : goal.returns-in-Ok
 unfolding root_of
-returns-then-q-n c =
-    rw (c.in-End.is, eq-eqb c.in-End.q c.nodes-n.result (omega arith)) at (body_answer c.args.words.now c.args.f _ _ _ c.requires.place c.nodes-n.ensures c.arity.ensures _ c.walk-walked.ensures)
+returns-in-Ok c =
+    rw (eq-eqb c.in-Ok.q c.nodes-n.result (omega arith)) at (body_answer _ c.args.f _ _ _ c.requires.place c.nodes-n.ensures c.arity.ensures _ c.in-Ok.ensures)
 
-pub returns-else-q-n : goal.returns-else-q-n
+pub returns-in-Ok-2 : goal.returns-in-Ok-2
 unfolding root_of
-returns-else-q-n c =
-    c.refuse.ensures ∙ (rw (c.in-End.is, ne_eqb c.in-End.q c.nodes-n.result (λ e. omega (arith, e))) at (body_answer c.args.words.now c.args.f _ _ _ c.requires.place c.nodes-n.ensures c.arity.ensures _ c.walk-walked.ensures))
+returns-in-Ok-2 c =
+    c.refuse.ensures ∙ (rw (ne_eqb c.in-Ok.q c.nodes-n.result (λ e. omega (arith, e))) at (body_answer _ c.args.f _ _ _ c.requires.place c.nodes-n.ensures c.arity.ensures _ c.in-Ok.ensures))
 
-pub returns-in-Fault : goal.returns-in-Fault
+pub returns-in-Err : goal.returns-in-Err
 unfolding root_of
-returns-in-Fault c =
-    c.refuse-in-Fault.ensures ∙ (rw c.in-Fault.is at (body_answer c.args.words.now c.args.f _ _ _ c.requires.place c.nodes-n.ensures c.arity.ensures _ c.walk-walked.ensures))
+returns-in-Err c =
+    rw (c.of.ensures) (body_answer _ c.args.f _ _ _ c.requires.place c.nodes-n.ensures c.arity.ensures _ c.in-Err.ensures)

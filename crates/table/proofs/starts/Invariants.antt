@@ -1,12 +1,8 @@
--- `table::starts` meets its contract, by the laws of Filling, Bodies.
-use Prim.Native.Nat.{◌≤◌, ◌-◌}
+-- The starts of the functions before f are found, and f's body begins at `start`.
 use mathlib.Core.Path.{◌≡◌}
-use Rattle.table.specs.Words.{functions as functionsOf, start_of}
+use Rattle.table.specs.Words.{start_of}
 use Rattle.table.proofs.Filling.{Filled}
 use Rattle.table.proofs.starts.Given as goal
 
 abbrev pub invariant-loop-f : goal.invariant-loop-f
-invariant-loop-f l = (l.f ≤ functionsOf l.words) × (l.start ≡ start_of l.words l.f) × Filled l.words l.found l.f
-
-abbrev pub decreases-loop-f : goal.decreases-loop-f
-decreases-loop-f l = l.functions - l.f
+invariant-loop-f l = record { start : l.start ≡ start_of l.words l.f; filled : Filled l.words l.found l.f }
