@@ -36,13 +36,14 @@ impl From<Failure> for u32 {
 pub fn operate(operation: Operation, x: u64, y: u64) -> Result<u64, Failure>
     ensures { result ≡ computed operation x y }
 {
-    match operation {
-        Operation::Add => x.checked_add(y).ok_or(Failure::TooLarge),
-        Operation::Subtract => x.checked_sub(y).ok_or(Failure::BelowZero),
-        Operation::Multiply => x.checked_mul(y).ok_or(Failure::TooLarge),
-        Operation::Divide => x.checked_div(y).ok_or(Failure::DivisionByZero),
-        Operation::Remainder => x.checked_rem(y).ok_or(Failure::DivisionByZero),
-        Operation::Less => Ok(u64::from(x < y)),
-        Operation::Equal => Ok(u64::from(x == y)),
-    }
+    let (result, failure) = match operation {
+        Operation::Add => (x.checked_add(y), Failure::TooLarge),
+        Operation::Subtract => (x.checked_sub(y), Failure::BelowZero),
+        Operation::Multiply => (x.checked_mul(y), Failure::TooLarge),
+        Operation::Divide => (x.checked_div(y), Failure::DivisionByZero),
+        Operation::Remainder => (x.checked_rem(y), Failure::DivisionByZero),
+        Operation::Less => return Ok(u64::from(x < y)),
+        Operation::Equal => return Ok(u64::from(x == y)),
+    };
+    result.ok_or(failure)
 }

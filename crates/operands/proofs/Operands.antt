@@ -1,6 +1,7 @@
 -- Simple operands: their words are there, and they have their values by so many transitions.
-use Prim.Native.Nat.{ℕ, zero, suc, ◌+◌, ◌*◌, ◌≤◌, ◌<◌}
-use Rattle.std.specs.Prelude.{Ok}
+use Prim.Native.Nat.{ℕ, ◌+◌, ◌*◌, ◌≤◌, ◌<◌}
+use Rattle.std.specs.Prelude.{Ok, Option, Some, None}
+use Rattle.std.specs.Option.{option_map_or, unwrap_or}
 use mathlib.Core.Path.{◌≡◌, ap, ◌∙◌}
 use mathlib.Core.Bool.{Bool, true, false, cond}
 use mathlib.Core.List.{List}
@@ -13,9 +14,10 @@ use borrow.Author.Tests.{lt-ltb, le-ltb, eq-eqb, ne_eqb}
 use Rattle.schedule.specs.FrameMachine.{return}
 use Rattle.schedule.specs.Stretch.{Leads}
 use Rattle.table.specs.declared.Operation.{Operation}
-use Rattle.table.specs.declared.Node.TheVariants.{Constant, Local, Arithmetic}
+use Rattle.table.specs.declared.Operation.TheVariants.{Equal}
+use Rattle.table.specs.declared.Node.TheVariants.{Constant, Local, Arithmetic, Unknown}
 use Rattle.table.specs.Words.{start_of, body_at, tag_at, a_at, b_at}
-use Rattle.table.specs.Nodes.{arithmetic_of, node_of, node_at}
+use Rattle.table.specs.Nodes.{operation_of, arithmetic_of, node_of, node_at}
 use Rattle.table.specs.WellFormed.{WellFormed, Subtree, Assured, constant, local}
 use Rattle.table.proofs.Trees.{moves}
 use Rattle.table.proofs.Views.{assured, at_arithmetic, tag_for}
@@ -70,14 +72,11 @@ simply a b c h = one (dec_lt a 2)
 -- THE OPERATION of an arithmetic's number is the node's
 numbered_is : (i b c : ℕ) (o : Operation) → arithmetic_of i b ≡ Arithmetic o c → numbered i ≡ o
 unfolding arithmetic_of tag_for
-numbered_is zero b c o e = cc
-numbered_is (suc zero) b c o e = cc
-numbered_is (suc (suc zero)) b c o e = cc
-numbered_is (suc (suc (suc zero))) b c o e = cc
-numbered_is (suc (suc (suc (suc zero)))) b c o e = cc
-numbered_is (suc (suc (suc (suc (suc zero))))) b c o e = cc
-numbered_is (suc (suc (suc (suc (suc (suc zero)))))) b c o e = cc
-numbered_is (suc (suc (suc (suc (suc (suc (suc n))))))) b c o e = let x : ◌≡◌ {A = ℕ} 7 2 = ap tag_for e in absurd (omega arith)
+numbered_is i b c o e = by (operation_of i) e
+  where
+    by : (r : Option Operation) → option_map_or (λ z. Arithmetic z b) r Unknown ≡ Arithmetic o c → unwrap_or r Equal ≡ o
+    by (Some z) e = cc
+    by None e = let x : ◌≡◌ {A = ℕ} 7 2 = ap tag_for e in absurd (omega arith)
 
 pub two_node : (w : List ℕ) (f p : ℕ) (o : Operation) (b : ℕ) → tag_at w (start_of w f) p ≡ 2 → node_at w (start_of w f) p ≡ Arithmetic o b → numbered (a_at w (start_of w f) p) ≡ o
 unfolding node_of

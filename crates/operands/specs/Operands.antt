@@ -1,14 +1,16 @@
 -- Simple operands, by their words: a constant, a local, or an arithmetic of two of these. Its node stands at the word `at`; the values of the
 -- locals stand from word `from` of `vs` on.
-use Rattle.std.specs.Prelude.{ℕ, ◌+◌, ◌*◌, ◌≤◌, ◌<◌, ◌≡◌, cond, List, [], ◌∷◌, length, get_or, ltb, eqb, Result, Ok}
+use Rattle.std.specs.Prelude.{ℕ, ◌+◌, ◌*◌, ◌≤◌, ◌<◌, ◌≡◌, cond, List, length, get_or, ltb, eqb, Result, Ok}
+use Rattle.std.specs.Option.{unwrap_or}
 use Rattle.table.specs.declared.Operation.{Operation}
-use Rattle.table.specs.declared.Operation.TheVariants.{Add, Subtract, Multiply, Divide, Remainder, Less, Equal}
+use Rattle.table.specs.declared.Operation.TheVariants.{Equal}
+use Rattle.table.specs.Nodes.{operation_of}
 use Rattle.arithmetic.specs.declared.Failure.{Failure}
 use Rattle.arithmetic.specs.Operate.{computed}
 
--- the operation of a number
+-- the operation of a number; above 6 the last
 abbrev pub numbered : ℕ → Operation
-numbered i = get_or (Add ∷ Subtract ∷ Multiply ∷ Divide ∷ Remainder ∷ Less ∷ []) i Equal
+numbered i = unwrap_or (operation_of i) Equal
 
 -- the value of a constant or a local
 abbrev pub leaf_at : List ℕ → ℕ → List ℕ → ℕ → ℕ

@@ -22,26 +22,12 @@ pub fn leaf(words: &[u32], at: usize, values: &[u64], from: usize) -> u64
     }
 }
 
-// The operation of this number.
-fn operation_of(number: u32) -> Operation
-    ensures { result ≡ numbered number }
-{
-    match number {
-        0 => Operation::Add,
-        1 => Operation::Subtract,
-        2 => Operation::Multiply,
-        3 => Operation::Divide,
-        4 => Operation::Remainder,
-        5 => Operation::Less,
-        _ => Operation::Equal,
-    }
-}
-
 // What the operation of this number gives.
 pub fn operate(operation: u32, x: u64, y: u64) -> Result<u64, Failure>
     ensures { result ≡ computed (numbered operation) x y }
 {
-    arithmetic::operate(operation_of(operation), x, y)
+    let operation = Operation::try_from(operation).unwrap_or(Operation::Equal);
+    arithmetic::operate(operation, x, y)
 }
 
 // The transitions of a simple operand: 1, or 5 for an arithmetic; 0 for any other node.
