@@ -3,23 +3,21 @@ use Prim.Native.Nat.{ℕ, ◌+◌, ◌*◌, ◌<◌, ◌≤◌}
 use Rattle.std.specs.Prelude.{Result, Ok, Err, MatchResult, IsErrAnd}
 use mathlib.Core.Path.{◌≡◌, refl, sym, ap, ◌∙◌}
 use mathlib.Core.List.{List, [], ◌∷◌, ◌++◌, append_assoc}
-use mathlib.Core.Bool.{true, false}
 use native.Mathlib.Omega.{arith}
 use lib.ListN.{length, take}
 use Rattle.table.specs.declared.Operation.{Operation}
 use Rattle.table.specs.declared.Node.{Node}
 use Rattle.table.specs.declared.Node.TheVariants.{Arithmetic}
-use Rattle.table.specs.Words.{functions, start_of, tag_at, b_at, c_at}
+use Rattle.table.specs.Words.{functions, start_of, tag_at, b_at}
 use Rattle.table.specs.Nodes.{node_at}
 use Rattle.arithmetic.specs.declared.Failure.{Failure}
 use Rattle.arithmetic.specs.Operate.{computed, number_of}
 use Rattle.table.specs.WellFormed.{WellFormed}
-use Rattle.frames.specs.Frames.{locals_word, frame_function, frame_node, frame_count, frame_value, seat_at, frame_locals, loaded, appended}
+use Rattle.frames.specs.Frames.{locals_word, frame_function, frame_node, frame_count, frame_value, seat_at, frame_locals, appended}
 use Rattle.frames.proofs.Writes.{Loaded, is_loaded, is_appended}
-use Rattle.moves.specs.declared.Control.TheVariants.{Eval}
 use Rattle.frames.specs.declared.Seat.{Seat}
 use Rattle.moves.specs.declared.Stopped.{Stopped}
-use Rattle.moves.specs.Ready.{Stands, Sitting, locals_at, Child, Concluded, stopped_at, placed_result, operation_of, operation}
+use Rattle.moves.specs.Ready.{Stands, Sitting, locals_at, stopped_at, placed_result, operation_of, operation}
 use Rattle.moves.proofs.Nodes.{inside, operation_in}
 
 -- the seat of a frame that was read, and where its function's body starts
@@ -45,23 +43,6 @@ module _ {w : List ℕ} (ws : List ℕ) (b : ℕ) (table : WellFormed w) (s : St
       pub operation_is : (v : ℕ) {o : Operation} {d : ℕ} → x ≡ Arithmetic o d → {y : ℕ} → y ≡ frame_value ws b → operation w ws b v ≡ placed_result r.function r.node (computed o y v)
       unfolding operation_of
       operation_is v e is_y = rw (node_is ∙ e, is, is_y)
-
-    module _ {ls ls' : List ℕ} (l : ls' ≡ loaded ls ws (locals_word b) r.count) where
-      pub second_child : {q : ℕ} → q ≡ b_at w start r.node → Child w ws ls b false ls' (record { function = r.function; node = q; count = r.count })
-      second_child x = record { seat = rw (rw (start_here, is) at x, is); locals = rw is at l }
-
-      pub third_child : {q : ℕ} → q ≡ c_at w start r.node → Child w ws ls b true ls' (record { function = r.function; node = q; count = r.count })
-      third_child x = record { seat = rw (rw (start_here, is) at x, is); locals = rw is at l }
-
--- two locals more
-pub concluded : (w ws ls : List ℕ) (b v : ℕ) (ls₁ ls₂ ls₃ : List ℕ) (r : Seat) → Child w ws ls b true ls₁ r → ls₂ ≡ appended ls₁ r.count (frame_value ws b) → ls₃ ≡ appended ls₂ (r.count + 1) v
-    → Concluded w ws ls b v ls₃ (Eval r.function r.node (r.count + 2))
-concluded w ws ls b v ls₁ ls₂ ls₃ r c x y =
-    let k : r.count ≡ frame_count ws b = ap (λ (z : Seat). z.count) c.seat in
-    record {
-      is = ap (λ (z : Seat). Eval z.function z.node (z.count + 2)) c.seat;
-      locals = rw (y, x, c.locals, k);
-    }
 
 -- what the locals are, part by part
 module _ (w ws ls : List ℕ) (b : ℕ) (s : Sitting w ws ls b) where

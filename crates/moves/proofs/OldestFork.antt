@@ -2,7 +2,6 @@
 --     oldest_other, oldest_with_lem    one frame more: no such fork, or one
 --     oldest_under, oldest_without_lem  one frame less: no such fork, or any
 --     without_none                     where there was none there is none
---     found_more                       one frame more of a search
 use Prim.Native.Nat.{ℕ, ◌+◌, ◌*◌, ◌<◌, ◌≤◌}
 use mathlib.Core.Path.{◌≡◌, refl, sym, ◌∙◌}
 use mathlib.Core.List.{List}
@@ -111,11 +110,3 @@ without_none o t e = at (eqb o t)
     at : (q : Bool) → cond q 4096 o ≡ 4096
     at true = refl
     at false = e
-
-pub found_more : (ws : List ℕ) (from i : ℕ) → ((j : ℕ) → from ≤ j → j < i → frame_kind ws (32 * j) ≡ 5 → ⊥) → (frame_kind ws (32 * i) ≡ 5 → ⊥)
-    → (j : ℕ) → from ≤ j → j < i + 1 → frame_kind ws (32 * j) ≡ 5 → ⊥
-found_more ws from i b n j h g x = at (dec_lt j i)
-  where
-    at : Dec (j < i) → ⊥
-    at (yes l) = b j h l x
-    at (no l) = let y : j ≡ i = omega arith in n (rw y at x)

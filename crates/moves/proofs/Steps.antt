@@ -267,7 +267,3 @@ module _ (w ws ls : List ℕ) (plan : Plan) (s : Registers) (r : Ready w ws ls p
             kept = pushed_kept ws' long 5 0 o' i u ok child old bo;
             spared = opened_spares ws' 5 0 i e;
           })
-
--- one transition more can be counted
-pub may_tick : {w ws ls : List ℕ} {plan : Plan} {s : Registers} → Ready w ws ls plan s → (s.credits.0 < 2 ^ 60) × (s.span.0 < 2 ^ 60) × (s.transitions < 2 ^ 60)
-may_tick r = let b = bounds _ _ _ _ _ r in (b.0, b.1, b.2)
