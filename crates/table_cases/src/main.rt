@@ -3,90 +3,25 @@
 
 #![tactic(auto)]
 
-ghost use Rattle.std.specs.Prelude.{◌≡◌, ◌+◌, ◌≤◌, ◌<◌, length};
-
 use table::Refusal;
 
-// The words of a line so far, and the number that is being read, if one is.
-#[derive(Clone, Copy)]
-struct Scan {
-    words: usize,
-    number: u64,
-    digits: bool,
-}
-
-// The index of the first such byte from `from` on, or `end`.
-fn find(text: &[u8], from: usize, end: usize, byte: u8) -> usize
-    requires { (from ≤ end) × (end ≤ length text.now) }
-    ensures { (from ≤ result) × (result ≤ end) }
-{
-    let mut i = from;
-    while i < end {
-        if text[i] == byte {
-            return i;
-        }
-        i += 1;
+// A number in decimal, at most the largest word.
+fn number(digits: &[u8]) -> u32 {
+    match std::str::from_utf8(digits) {
+        Ok(text) => text.parse().unwrap_or(u32::MAX),
+        Err(_) => u32::MAX,
     }
-    i
 }
 
-// A number with one more digit, at most the largest word.
-fn with_digit(number: u64, digit: u8) -> u64
-    requires { number < 4294967296 }
-    ensures { result < 4294967296 }
-{
-    let next = number * 10 + digit as u64;
-    if next < 4294967296 { next } else { 4294967295 }
-}
-
-// One byte: a digit goes into the number, and anything else ends it.
-fn scanned(words: &mut [u32], scan: Scan, byte: u8) -> Scan
-    requires { (scan.words ≤ length words.old) × (scan.number < 4294967296) }
-    ensures { (result.words ≤ length words.new) × (length words.new ≡ length words.old) × (result.number < 4294967296) }
-{
-    let count = scan.words;
-    let number = scan.number;
-    if b'0' <= byte && byte <= b'9' {
-        return Scan {
-            words: count,
-            number: with_digit(number, byte - b'0'),
-            digits: true,
-        };
-    }
-    if scan.digits {
-        if count < words.len() {
-            words[count] = number as u32;
-            return Scan {
-                words: count + 1,
-                number: 0,
-                digits: false,
-            };
+// The numbers of a text, with anything but digits between them, as many as a line has room for.
+fn numbers(text: &[u8]) -> arrayvec::ArrayVec<u32, 1024> {
+    let mut words = arrayvec::ArrayVec::new();
+    for digits in text.split(|byte| !byte.is_ascii_digit()) {
+        if !digits.is_empty() {
+            let _ = words.try_push(number(digits));
         }
     }
-    Scan {
-        words: count,
-        number: 0,
-        digits: false,
-    }
-}
-
-// The words of a part of the text, and how many they are.
-fn scan_words(text: &[u8], from: usize, end: usize, words: &mut [u32]) -> usize
-    requires { (from ≤ end) × (end ≤ length text.now) }
-    ensures { (result ≤ length words.new) × (length words.new ≡ length words.old) }
-{
-    let mut scan = Scan {
-        words: 0,
-        number: 0,
-        digits: false,
-    };
-    let mut i = from;
-    while i < end {
-        scan = scanned(words, scan, text[i]);
-        i += 1;
-    }
-    scan = scanned(words, scan, b' ');
-    scan.words
+    words
 }
 
 fn write_number(name: &[u8], n: usize) {
@@ -108,32 +43,20 @@ fn write_reading(reading: Result<(), Refusal>) {
     }
 }
 
-// The line from `at` on; answers where the next one starts.
-fn line(text: &[u8], at: usize, end: usize, words: &mut [u32]) -> usize
-    requires { (at < end) × (end ≤ length text.now) }
-    ensures { (at < result) × (length words.new ≡ length words.old) }
-{
-    let stop = find(text, at, end, b'\n');
-    let colon = find(text, at, stop, b':');
-    let count = scan_words(text, colon, stop, words);
-    io::write_all(1, &text[at..colon]);
+// A line: its label up to a colon, and the words after it.
+fn tell(line: &[u8]) {
+    let mut parts = line.splitn(2, |byte| *byte == b':');
+    let label = parts.next().unwrap_or(line);
+    let words = numbers(parts.next().unwrap_or(b""));
+    io::write_all(1, label);
     io::write_all(1, b": ");
-    write_reading(table::read(&words[..count]));
-    stop + 1
-}
-
-fn lines(text: &[u8], end: usize, words: &mut [u32])
-    requires { end ≤ length text.now }
-{
-    let mut at = 0;
-    while at < end {
-        at = line(text, at, end, words);
-    }
+    write_reading(table::read(&words));
 }
 
 fn main() {
     let mut text = io::large_buffer();
     let end = io::read_full(0, &mut text);
-    let mut words = [0u32; 1024];
-    lines(&text, end, &mut words);
+    for line in text[..end].split_inclusive(|byte| *byte == b'\n') {
+        tell(line.strip_suffix(b"\n").unwrap_or(line));
+    }
 }

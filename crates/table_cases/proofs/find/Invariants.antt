@@ -1,9 +1,0 @@
--- `table_cases::find` meets its contract.
-use Prim.Native.Nat.{◌≤◌, ◌-◌}
-use Rattle.table_cases.proofs.find.Given as goal
-
-abbrev pub invariant-loop-i : goal.invariant-loop-i
-invariant-loop-i l = (l.from ≤ l.i) × (l.i ≤ l.end)
-
-abbrev pub decreases-loop-i : goal.decreases-loop-i
-decreases-loop-i l = l.end - l.i
