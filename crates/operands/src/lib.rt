@@ -47,7 +47,7 @@ pub fn cost(words: &[u32], at: usize) -> u64
 pub fn frames_of(k: u64) -> usize
     ensures { result ≡ frames_of k }
 {
-    if k == 5 { 1 } else { 0 }
+    usize::from(k == 5)
 }
 
 // Two costs together, 0 if one of them is.
