@@ -1,17 +1,17 @@
 -- Calls with a buffer lent for the run's cost graph: what `GraphCalled` says of each, and what holds of the words that they write.
 -- Assumes nothing.
 use Prim.Native.Nat.{ℕ, ◌≤◌, ◌<◌}
-use mathlib.Core.Path.{◌≡◌, refl, sym, ap, ◌∙◌}
-use mathlib.Core.Bool.{true, false}
-use mathlib.Core.List.{List, [], ◌∷◌, ◌++◌}
+use mathlib.Core.Path.{◌≡◌, sym, ap, ◌∙◌}
+use mathlib.Core.Bool.{true}
+use mathlib.Core.List.{List, [], ◌∷◌}
 use mathlib.Core.Logic.{◌⊎◌, inl, inr}
 use native.Mathlib.Omega.{arith}
-use lib.ListN.{length, get_or, set, length-append, get_or-append}
+use lib.ListN.{length, get_or, length-append, get_or-append}
 use lib.Seq.{get_or-append_seam}
 use Rattle.schedule.specs.Machine.{sequential, parallel, heartbeat}
 use Rattle.language.specs.declared.Stop.{Stop}
 use Rattle.language.specs.declared.Answer.{Answer}
-use Rattle.language.specs.declared.Answer.TheVariants.{Value, Stopped, Refused}
+use Rattle.language.specs.declared.Answer.TheVariants.{Stopped}
 use Rattle.language.specs.Answers.{deepest_of}
 use Rattle.language.specs.Stops.{Listed}
 use Rattle.graph_answers.specs.declared.Graphed.{Graphed}
@@ -30,11 +30,8 @@ use Rattle.capi.proofs.Serving.{serving, by_name}
 use Rattle.capi.proofs.Writing.{length_written, word_written}
 use Rattle.capi.proofs.Claims.{Front, nine, valued, stopped, shown, four_words, same_words, listed_words}
 
--- A CALL is served or it is not
+-- A CALL that is served
 module _ (machine : ℕ) (w arguments : List ℕ) (fuel N τ : ℕ) (ws graph out : List ℕ) where
-  pub turned_away : served machine (length out) ≡ false → GraphCalled machine w arguments fuel N τ ws graph out ws graph out 1
-  turned_away h = record { returned = rw h; workspace = rw h; buffer = rw h; answer = rw h }
-
   pub told : (schedule : Schedule) (r : Graphed) (ws' graph' out' : List ℕ) → (served machine (length out) ≡ true) × (number_of schedule ≡ machine)
       → r ≡ graphed_of (schedule_of schedule N) w arguments fuel N τ (length ws) (length graph) → ws' ≡ left_by r.answer ws
       → graph' ≡ graph_left (schedule_of schedule N) w arguments fuel N τ (length ws) graph → out' ≡ written out (graph_words r)
@@ -53,13 +50,6 @@ first_nine r i h = get_or-append (answer_words r.answer) (r.words ∷ []) 0 i (o
 
 tenth : (r : Graphed) → get_or (graph_words r) 9 0 ≡ r.words
 tenth r = ap (λ (i : ℕ). get_or (graph_words r) i 0) (sym (nine r.answer)) ∙ get_or-append_seam (answer_words r.answer) r.words [] 0
-
--- it is put after the nine
-pub put_tenth : (a : Answer) (n : ℕ) → set (answer_words a ++ (0 ∷ [])) 9 n ≡ answer_words a ++ (n ∷ [])
-unfolding answer_words
-put_tenth (Value v k) n = refl
-put_tenth (Stopped s) n = refl
-put_tenth (Refused r) n = refl
 
 front : (out : List ℕ) (r : Graphed) → 8 ≤ length out → Front (written out (graph_words r)) r.answer
 front out r h = record {

@@ -1,4 +1,4 @@
--- A call is served or it is not, by its two tests; its machine by the number and by the name; and what `Called` says of each.
+-- A call is served or it is not, by its two tests; its machine by the number and by the name; and what `Called` says of one that is served.
 -- Assumes nothing.
 use mathlib.Core.Path.{◌≡◌, refl, sym, ◌∙◌}
 use Prim.Native.Nat.{ℕ, ◌<◌, ◌≤◌}
@@ -72,9 +72,6 @@ by_name schedule machine N e = rw (← e) (on schedule)
     on Heartbeat = refl
 
 module _ (machine : ℕ) (w arguments : List ℕ) (fuel N τ : ℕ) (ws out : List ℕ) where
-  pub turned_away : served machine (length out) ≡ false → Called machine w arguments fuel N τ ws out ws out 1
-  turned_away h = record { returned = rw h; workspace = rw h; answer = rw h }
-
   pub told : (schedule : Schedule) (r : Answer) (ws' out' : List ℕ) → (served machine (length out) ≡ true) × (number_of schedule ≡ machine)
       → r ≡ answer_of (schedule_of schedule N) w arguments fuel N τ (length ws) → ws' ≡ left_by r ws → out' ≡ written out (answer_words r)
       → Called machine w arguments fuel N τ ws out ws' out' 0

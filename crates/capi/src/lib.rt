@@ -17,6 +17,7 @@ use machine::Schedule;
 use schedule::Fuel;
 
 // What a call returns: it was served, or it was turned away and changed nothing.
+// Kept: the C interface has numbers for these, as for the machines and, in `words_of`, for the kinds of answer.
 const SERVED: u32 = 0;
 
 const TURNED_AWAY: u32 = 1;
@@ -82,6 +83,7 @@ fn serves(machine: u32, room: usize) -> Option<Schedule>
 
 // Runs a machine, 0 sequential, 1 parallel or 2 heartbeat, and returns 0 with the answer's words, as many as are lent, at the front of
 // `answer`; for an unknown machine or fewer than eight answer words it returns 1 and changes nothing.
+// Kept: the C interface has fuel, N and τ as three parameters, here and in `mondupil_run_graph`.
 #[unsafe(no_mangle)]
 pub extern "C" fn mondupil_run(
     machine: u32,

@@ -1,10 +1,6 @@
 -- `capi::mondupil_run_graph` meets its contract: it is served or not (proofs/Graphs.antt). Assumes nothing.
-use Rattle.capi.proofs.Graphs.{turned_away, told}
+use Rattle.capi.proofs.Graphs.{told}
 use Rattle.capi.proofs.mondupil_run_graph.Goals as goal
-
-pub returns-in_default : goal.returns-in_default
-returns-in_default c =
-    let a = c.args in turned_away a.machine a.table.now a.args.now _ _ _ _ _ _ c.in_default.ensures
 
 pub returns : goal.returns
 returns c =

@@ -6,10 +6,6 @@ use native.Mathlib.Omega.{arith}
 use mathlib.Core.Path.{refl}
 use Rattle.machine.proofs.machine.Goals as goal
 
-pub launch-requires : goal.launch-requires
-launch-requires c =
-    let a = c.checked-read.ensures.assures.0 c.in-Ok.is in record { table = a.table; count = a.arguments; limits = record { fuel = omega arith; tau = omega arith; frames = omega arith } }
-
 pub returns-in-Ok : goal.returns-in-Ok
 returns-in-Ok c =
     let a = c.checked-read.ensures.assures.0 c.in-Ok.is in
