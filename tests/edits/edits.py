@@ -72,7 +72,7 @@ def as_imported(text, old, new):
 
 # A test against a number or a constant, either way round.
 AGAINST = r"(?:\w+::)*(\d+|[A-Z_]+)"
-TEST = re.compile(rf"\b(?:if|while) (?:{AGAINST} (<=?) (\w+)[^{{]*|(\w+)[^{{]*? ([=!<>]=|[<>]) {AGAINST}) {{")
+TEST = re.compile(rf"\b(?:if|while) (?:{AGAINST} (<=?) (\w+)[^{{]*|(\w+)[^{{]*? ([=!<>]=|[<>]) {AGAINST}(?: && [^{{]*)?) {{")
 SAID = {"==": "eq", "!=": "ne", "<": "lt", "<=": "le", ">": "gt", ">=": "ge"}
 
 

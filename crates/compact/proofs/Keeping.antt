@@ -1,12 +1,12 @@
 -- The registers by one counter stand for those of the moves, and one step of the same machine keeps them.
 use Prim.Native.Nat.{ℕ, ◌+◌, ◌-◌, ◌≤◌, ◌<◌}
-use mathlib.Core.Path.{◌≡◌, refl, sym, ap, ◌∙◌}
-use mathlib.Core.Bool.{Bool, true, false, cond, true≢false, ◌&&◌}
+use mathlib.Core.Path.{◌≡◌, refl, ap, ◌∙◌}
+use mathlib.Core.Bool.{false, ◌&&◌}
 use mathlib.Core.List.{List}
 use native.Mathlib.Omega.{arith}
-use native.Mathlib.Decide.{dec_lt}
 use lib.Dec.{ltb, leb}
-use borrow.Author.Tests.{lt-ltb, le-ltb, lt-leb, le-leb, ltb-true, ltb-false}
+use Rattle.std.proofs.lemmas.Bool.Decides.{nat_tests}
+use borrow.Author.Tests.{lt-ltb}
 use Rattle.moves.specs.declared.Control.{Control}
 use Rattle.moves.specs.declared.Registers.{Registers}
 use Rattle.frames.specs.declared.Seat.{Seat}
@@ -18,35 +18,34 @@ use Rattle.compact.specs.declared.Compact.{Compact}
 use Rattle.compact.specs.declared.Event.{Event}
 use Rattle.compact.specs.declared.Progress.{Progress}
 use Rattle.compact.specs.declared.Progress.TheVariants as progress
-use Rattle.compact.specs.Compact.{full, step_of, limit_of, Paced, PacedBy, compact_of, kept_of, kept_by, freed_by, Transits, later_of}
+use Rattle.compact.specs.Compact.{full, step_of, limit_of, Paced, PacedBy, compact_of, GoesWith, Answers, answer_of, kept_of, kept_by, freed_by, Transits, later_of}
 
 -- THE LIMIT: not above the fuel, and where there is a fork, not above the start and a period
 limit_fuel : (plan : Plan) (since oldest : ℕ) → since ≤ plan.fuel.0 → limit_of plan since oldest ≤ plan.fuel.0
 unfolding limit_of
-limit_fuel plan since oldest h = on (ltb oldest 4096) (ltb plan.period (plan.fuel.0 - since)) refl
-  where
-    on : (a b : Bool) → ltb plan.period (plan.fuel.0 - since) ≡ b → cond a (cond b (since + plan.period) plan.fuel.0) plan.fuel.0 ≤ plan.fuel.0
-    on false b e = omega arith
-    on true false e = omega arith
-    on true true e = omega (arith, ltb-true plan.period (plan.fuel.0 - since) e)
+limit_fuel plan since oldest h = grind (arith, nat_tests)
 
 limit_period : (plan : Plan) (since oldest : ℕ) → since ≤ plan.fuel.0 → oldest < 4096 → limit_of plan since oldest ≤ since + plan.period
 unfolding limit_of
-limit_period plan since oldest h o = rw (lt-ltb _ _ o) (on (ltb plan.period (plan.fuel.0 - since)) refl)
-  where
-    on : (b : Bool) → ltb plan.period (plan.fuel.0 - since) ≡ b → cond b (since + plan.period) plan.fuel.0 ≤ since + plan.period
-    on false e = omega (arith, ltb-false plan.period (plan.fuel.0 - since) e)
-    on true e = omega arith
+limit_period plan since oldest h o = grind (arith, nat_tests)
 
 limit_exact : (plan : Plan) (since oldest : ℕ) → limit_of plan since oldest < plan.fuel.0 → (oldest < 4096) × (since + plan.period ≤ limit_of plan since oldest)
 unfolding limit_of
-limit_exact plan since oldest h = on (ltb oldest 4096) refl (ltb plan.period (plan.fuel.0 - since)) h
-  where
-    on : (a : Bool) → ltb oldest 4096 ≡ a → (b : Bool) → cond a (cond b (since + plan.period) plan.fuel.0) plan.fuel.0 < plan.fuel.0
-        → (oldest < 4096) × (since + plan.period ≤ cond a (cond b (since + plan.period) plan.fuel.0) plan.fuel.0)
-    on false e b l = absurd (omega arith)
-    on true e false l = absurd (omega arith)
-    on true e true l = (ltb-true oldest 4096 e, omega arith)
+limit_exact plan since oldest h = grind (arith, nat_tests)
+
+-- A STEP'S ANSWER, by what is told of the registers that it goes on with
+pub goes_with : {P : Registers → Type 0} {o : Step} → ((s : Registers) → o ≡ Go s → P s) → GoesWith P o
+unfolding GoesWith
+goes_with {o = Go s} p = p s refl
+goes_with {o = Value v} p = tt
+goes_with {o = Halt h} p = tt
+
+pub answered : {R : Registers → Compact → Type 0} {o : Step} {r : Progress} {f : Registers → Compact} → Answers R o r
+    → ((s : Registers) (g : Compact) → o ≡ Go s → R s g → g ≡ f s) → r ≡ answer_of f o
+unfolding Answers answer_of
+answered {o = Go s} a is = a.1 ∙ ap progress.Go (is s a.0 refl a.2)
+answered {o = Value v} a is = a
+answered {o = Halt h} a is = a
 
 -- REGISTERS MADE COMPACT stand for themselves
 module _ (plan : Plan) (s : Registers) (a : s.credits.0 ≤ s.transitions) (b : s.transitions ≤ plan.fuel.0) (c : s.credits.0 ≤ s.span.0) where
@@ -85,7 +84,7 @@ module _ (plan : Plan) (g : Compact) (p : Paced plan g) (s : Registers) (a : s.c
 module _ {plan : Plan} {g : Compact} (p : Paced plan g) {s : Registers} (e : s ≡ full g) {o : Step} {r : Progress} (u : r ≡ kept_by g o) where
   pub kept_opened : {ws ws' ls : List ℕ} {seat : Seat} {kind : ℕ} → Opened ws ws' ls plan s seat kind g.oldest o
       → Opened ws ws' ls plan (full g) seat kind g.oldest (step_of r) × PacedBy plan r × Transits g r
-  unfolding kept_by step_of PacedBy Transits
+  unfolding answer_of step_of PacedBy Transits
   kept_opened {ws} {ws'} {ls} {seat} {kind} t = rw u (on (rw e at t))
     where
       on : Opened ws ws' ls plan (full g) seat kind g.oldest o → Opened ws ws' ls plan (full g) seat kind g.oldest (step_of (kept_by g o)) × PacedBy plan (kept_by g o) × Transits g (kept_by g o)
@@ -98,10 +97,10 @@ module _ {plan : Plan} {g : Compact} (p : Paced plan g) {s : Registers} (e : s �
   kept_ticks t = rw u (on o (rw e at t))
     where
       on : (o : Step) → Ticks (full g) o → (step_of (kept_by g o) ≡ o) × PacedBy plan (kept_by g o) × Transits g (kept_by g o)
-      on (Go next) t = unfold Ticks kept_by step_of PacedBy Transits in
+      on (Go next) t = unfold Ticks answer_of step_of PacedBy Transits in
           (ap Go (kept_full plan g p next t.0 t.1 t.2 t.3), kept_paced plan g p next t.0 t.1 t.2 t.3, omega (arith, t.2))
-      on (Value v) t = unfold kept_by step_of PacedBy Transits in (refl, tt, tt)
-      on (Halt h) t = unfold kept_by step_of PacedBy Transits in (refl, tt, tt)
+      on (Value v) t = unfold answer_of step_of PacedBy Transits in (refl, tt, tt)
+      on (Halt h) t = unfold answer_of step_of PacedBy Transits in (refl, tt, tt)
 
 -- ONE TRANSITION that opens no frame, where there is fuel
 pub later_transits : (plan : Plan) (g : Compact) → Paced plan g → Paid plan (full g) → (seat : Seat) (to : Control) (r : Progress) → r ≡ progress.Go (later_of g to g.depth 1)
@@ -136,28 +135,9 @@ freed_paced plan event (progress.Halt h) p = p
 -- THE FUEL IS SPENT at the limit, where no promotion is due
 pub at_fuel : (plan : Plan) (g : Compact) → Paced plan g → (g.depth ≤ g.oldest → g.oldest ≡ 4096) → g.limit ≤ g.transitions
     → (leb plan.period (full g).credits.0 && ltb g.oldest g.depth) ≡ false → plan.fuel.0 ≤ g.transitions
-at_fuel plan g p none h e = on (dec_lt g.limit plan.fuel.0)
-  where
-    on : Dec (g.limit < plan.fuel.0) → plan.fuel.0 ≤ g.transitions
-    on (no l) = omega arith
-    on (yes l) = let x = p.exact l in under (dec_lt g.oldest g.depth) x
-      where
-        under : Dec (g.oldest < g.depth) → (g.oldest < 4096) × (g.since + plan.period ≤ g.limit) → plan.fuel.0 ≤ g.transitions
-        under (no m) x = absurd (omega (arith, x.0, none (omega arith)))
-        under (yes m) x =
-            let due : (leb plan.period (full g).credits.0 && ltb g.oldest g.depth) ≡ true
-            = rw (le-leb plan.period (full g).credits.0 (omega (arith, x.1, p.since)), lt-ltb g.oldest g.depth m) in
-            absurd (true≢false (sym due ∙ e))
+at_fuel plan g p none h e = grind (arith, nat_tests, p.exact)
 
 -- NO PROMOTION IS DUE below the limit
 pub never_due : (plan : Plan) (g : Compact) → Paced plan g → g.depth ≤ 4096 → g.transitions < g.limit
     → (leb plan.period (full g).credits.0 && ltb g.oldest g.depth) ≡ false
-never_due plan g p d h = on (dec_lt g.oldest 4096)
-  where
-    neither : (b : Bool) → (b && false) ≡ false
-    neither true = refl
-    neither false = refl
-
-    on : Dec (g.oldest < 4096) → (leb plan.period (full g).credits.0 && ltb g.oldest g.depth) ≡ false
-    on (yes l) = rw (lt-leb plan.period (full g).credits.0 (omega (arith, p.calm l, p.since)))
-    on (no l) = rw (le-ltb g.oldest g.depth (omega arith)) (neither (leb plan.period (full g).credits.0))
+never_due plan g p d h = grind (arith, nat_tests, p.calm, p.since)

@@ -49,24 +49,42 @@ PacedBy plan (Paused p) = Unit {0}
 PacedBy plan (Value v) = Unit {0}
 PacedBy plan (Halt h) = Unit {0}
 
--- REGISTERS MADE COMPACT: any, by what they tell; and those of the same machine, with its start and its limit kept
-abbrev pub compact_of : Plan → Registers → Compact
-compact_of plan s = record {
+-- REGISTERS MADE COMPACT: any, by what they tell, with this limit or with theirs; and those of the same machine, with its start and its limit kept
+abbrev pub limited_of : Registers → ℕ → Compact
+limited_of s limit = record {
   control = s.control;
   depth = s.depth;
   oldest = s.oldest;
   transitions = s.transitions;
   since = s.transitions - s.credits.0;
   before = record { 0 = s.span.0 - s.credits.0 };
-  limit = limit_of plan (s.transitions - s.credits.0) s.oldest;
+  limit = limit;
   forks = s.forks;
   deepest = s.deepest;
 }
 
-unfoldable pub settled_of : Plan → Step → Progress
-settled_of plan (step.Go s) = Go (compact_of plan s)
-settled_of plan (step.Value v) = Value v
-settled_of plan (step.Halt h) = Halt h
+abbrev pub compact_of : Plan → Registers → Compact
+compact_of plan s = limited_of s (limit_of plan (s.transitions - s.credits.0) s.oldest)
+
+-- a step that goes on does so with such registers
+unfoldable pub GoesWith : (Registers → Type 0) → Step → Type 0
+GoesWith P (step.Go s) = P s
+GoesWith P (step.Value v) = Unit {0}
+GoesWith P (step.Halt h) = Unit {0}
+
+-- the progress of a step, its registers made compact so: by a relation, and by a function
+unfoldable pub Answers : (Registers → Compact → Type 0) → Step → Progress → Type 0
+Answers R (step.Go s) r = (g : Compact) × (r ≡ Go g) × R s g
+Answers R (step.Value v) r = r ≡ Value v
+Answers R (step.Halt h) r = r ≡ Halt h
+
+unfoldable pub answer_of : (Registers → Compact) → Step → Progress
+answer_of f (step.Go s) = Go (f s)
+answer_of f (step.Value v) = Value v
+answer_of f (step.Halt h) = Halt h
+
+abbrev pub settled_of : Plan → Step → Progress
+settled_of plan o = answer_of (compact_of plan) o
 
 -- these can be made compact
 unfoldable pub Settles : Plan → Step → Type 0
@@ -93,10 +111,8 @@ kept_of g s = record {
   deepest = s.deepest;
 }
 
-unfoldable pub kept_by : Compact → Step → Progress
-kept_by g (step.Go s) = Go (kept_of g s)
-kept_by g (step.Value v) = Value v
-kept_by g (step.Halt h) = Halt h
+abbrev pub kept_by : Compact → Step → Progress
+kept_by g o = answer_of (kept_of g) o
 
 -- A STEP THAT WAS FREE, with its event
 unfoldable pub freed_by : Event → Progress → Progress

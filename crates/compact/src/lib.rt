@@ -4,7 +4,7 @@
 
 ghost use Rattle.std.specs.Prelude.{◌≡◌, true, ◌&&◌, ◌+◌, ◌<◌, ◌≤◌, ◌^◌, max, ltb, leb};
 ghost use Rattle.moves.specs.Ready.{Framed, Paid, Opened};
-ghost use Rattle.compact.specs.Compact.{full, step_of, limit_of, Paced, PacedBy, compact_of, settled_of, Settles, Forkless, kept_by, freed_by, Transits, later_of, Small, Roomy};
+ghost use Rattle.compact.specs.Compact.{full, step_of, limit_of, Paced, PacedBy, limited_of, compact_of, GoesWith, Answers, settled_of, Settles, Forkless, kept_by, freed_by, Transits, later_of, Small, Roomy};
 
 use frames::Seat;
 use moves::{Control, Plan, Registers, Step, Stopped};
@@ -68,15 +68,13 @@ pub fn expand(g: Compact) -> Registers
     requires { (g.since ≤ g.transitions) × ((full g).span.0 < 2 ^ 60) }
     ensures { result ≡ full g }
 {
-    let control = g.control;
-    let before = g.before;
     let made = g.transitions - g.since;
     Registers {
-        control,
+        control: g.control,
         depth: g.depth,
         oldest: g.oldest,
         credits: Credits(made),
-        span: Span(before.0 + made),
+        span: Span(g.before.0 + made),
         transitions: g.transitions,
         forks: g.forks,
         deepest: g.deepest,
@@ -84,19 +82,33 @@ pub fn expand(g: Compact) -> Registers
 }
 
 // The limit of a machine that started after so many transitions.
+#[tactic(auto, using(std::proofs::lemmas::Bool::Decides::nat_tests), unfolding(crate::specs::Compact::limit_of))]
 fn limit_of(plan: Plan, since: u64, oldest: usize) -> u64
     requires { since ≤ plan.fuel.0 }
     ensures { result ≡ limit_of plan since oldest }
 {
-    let fuel = plan.fuel;
-    if oldest < moves::NO_FORK {
-        if plan.period < fuel.0 - since {
-            since + plan.period
-        } else {
-            fuel.0
-        }
+    if oldest < moves::NO_FORK && plan.period < plan.fuel.0 - since {
+        since + plan.period
     } else {
-        fuel.0
+        plan.fuel.0
+    }
+}
+
+// Registers made compact, with this limit.
+fn limited(s: Registers, limit: u64) -> Compact
+    requires { (s.credits.0 ≤ s.transitions) × (s.credits.0 ≤ s.span.0) }
+    ensures { result ≡ limited_of s limit }
+{
+    Compact {
+        control: s.control,
+        depth: s.depth,
+        oldest: s.oldest,
+        transitions: s.transitions,
+        since: s.transitions - s.credits.0,
+        before: Span(s.span.0 - s.credits.0),
+        limit,
+        forks: s.forks,
+        deepest: s.deepest,
     }
 }
 
@@ -105,22 +117,19 @@ fn pack(plan: Plan, s: Registers) -> Compact
     requires { (s.credits.0 ≤ s.transitions) × (s.transitions ≤ plan.fuel.0) × (s.credits.0 ≤ s.span.0) }
     ensures { result ≡ compact_of plan s }
 {
-    let control = s.control;
-    let credits = s.credits;
-    let span = s.span;
-    let since = s.transitions - credits.0;
-    let before = Span(span.0 - credits.0);
-    let limit = limit_of(plan, since, s.oldest);
-    Compact {
-        control,
-        depth: s.depth,
-        oldest: s.oldest,
-        transitions: s.transitions,
-        since,
-        before,
-        limit,
-        forks: s.forks,
-        deepest: s.deepest,
+    limited(s, limit_of(plan, s.transitions - s.credits.0, s.oldest))
+}
+
+// A step's answer, its registers made compact by `pack`.
+#[tactic(auto, unfolding(crate::specs::Compact::GoesWith, crate::specs::Compact::Answers))]
+fn answer<F: FnOnce(Registers) -> Compact>(step: Step, pack: F) -> Progress
+    requires { GoesWith (F.pre pack) step }
+    ensures { Answers (F.post pack) step result }
+{
+    match step {
+        Step::Go(s) => Progress::Go(pack(s)),
+        Step::Value(v) => Progress::Value(v),
+        Step::Halt(h) => Progress::Halt(h),
     }
 }
 
@@ -129,11 +138,7 @@ pub fn settle(plan: Plan, step: Step) -> Progress
     requires { Settles plan step }
     ensures { result ≡ settled_of plan step }
 {
-    match step {
-        Step::Go(s) => Progress::Go(pack(plan, s)),
-        Step::Value(v) => Progress::Value(v),
-        Step::Halt(h) => Progress::Halt(h),
-    }
+    answer(step, |s| pack(plan, s))
 }
 
 // The same where a machine begins and has no fork: its limit is the fuel.
@@ -141,66 +146,35 @@ pub fn restart(plan: Plan, step: Step) -> Progress
     requires { (Settles plan step) × (Forkless step) }
     ensures { result ≡ settled_of plan step }
 {
-    match step {
-        Step::Go(s) => {
-            let control = s.control;
-            let credits = s.credits;
-            let span = s.span;
-            let fuel = plan.fuel;
-            let since = s.transitions - credits.0;
-            let before = Span(span.0 - credits.0);
-            Progress::Go(Compact {
-                control,
-                depth: s.depth,
-                oldest: s.oldest,
-                transitions: s.transitions,
-                since,
-                before,
-                limit: fuel.0,
-                forks: s.forks,
-                deepest: s.deepest,
-            })
-        }
-        Step::Value(v) => Progress::Value(v),
-        Step::Halt(h) => Progress::Halt(h),
-    }
+    answer(step, |s| limited(s, plan.fuel.0))
 }
 
 // The same where the machine goes on and has the same oldest fork: its start and its limit are kept.
 pub fn keep(g: Compact, step: Step) -> Progress
     ensures { result ≡ kept_by g step }
 {
-    match step {
-        Step::Go(s) => {
-            let control = s.control;
-            let before = g.before;
-            Progress::Go(Compact {
-                control,
-                depth: s.depth,
-                oldest: s.oldest,
-                transitions: s.transitions,
-                since: g.since,
-                before,
-                limit: g.limit,
-                forks: s.forks,
-                deepest: s.deepest,
-            })
-        }
-        Step::Value(v) => Progress::Value(v),
-        Step::Halt(h) => Progress::Halt(h),
-    }
+    answer(
+        step,
+        |s| Compact {
+            control: s.control,
+            depth: s.depth,
+            oldest: s.oldest,
+            transitions: s.transitions,
+            forks: s.forks,
+            deepest: s.deepest,
+            ..g
+        },
+    )
 }
 
 // A step that was free, with its event.
+#[tactic(auto, unfolding(crate::specs::Compact::freed_by))]
 pub fn free(progress: Progress, event: Event) -> Progress
     ensures { result ≡ freed_by event progress }
 {
     match progress {
         Progress::Go(g) => Progress::Free(g, event),
-        Progress::Free(g, before) => Progress::Free(g, before),
-        Progress::Paused(p) => Progress::Paused(p),
-        Progress::Value(v) => Progress::Value(v),
-        Progress::Halt(h) => Progress::Halt(h),
+        other => other,
     }
 }
 
@@ -210,13 +184,7 @@ pub fn fits(g: Compact, k: u64, more: u64, h: usize) -> bool
     requires { (Small g) × (k ≤ 1000) × (more ≤ 1000) × (h ≤ 2) }
     ensures { result ≡ true → (0 < k) × Roomy g (k + more) h }
 {
-    if k == 0 {
-        false
-    } else if g.transitions + (k + more) <= g.limit {
-        g.depth + h <= g.deepest
-    } else {
-        false
-    }
+    0 < k && g.transitions + (k + more) <= g.limit && g.depth + h <= g.deepest
 }
 
 // The registers k transitions later.
@@ -224,18 +192,11 @@ pub fn later(g: Compact, control: Control, depth: usize, k: u64) -> Compact
     requires { (Small g) × (k ≤ 1000) }
     ensures { result ≡ later_of g control depth k }
 {
-    let before = g.before;
-    let transitions = g.transitions + k;
     Compact {
         control,
         depth,
-        oldest: g.oldest,
-        transitions,
-        since: g.since,
-        before,
-        limit: g.limit,
-        forks: g.forks,
-        deepest: g.deepest,
+        transitions: g.transitions + k,
+        ..g
     }
 }
 
@@ -267,10 +228,11 @@ pub fn due(plan: Plan, g: Compact) -> bool
     requires { (Paced plan g) × (g.depth ≤ 4096) }
     ensures { result ≡ (leb plan.period (full g).credits.0 && ltb g.oldest g.depth) }
 {
-    if g.transitions < g.limit {
-        false
-    } else {
-        let credits = Credits(g.transitions - g.since);
-        moves::due(plan.period, credits, g.oldest, g.depth)
-    }
+    g.limit <= g.transitions
+        && moves::due(
+            plan.period,
+            Credits(g.transitions - g.since),
+            g.oldest,
+            g.depth,
+        )
 }

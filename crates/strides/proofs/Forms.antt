@@ -6,11 +6,12 @@ use mathlib.Core.List.{List}
 use native.Mathlib.Omega.{arith}
 use lib.ListN.{length, get_or, take}
 use lib.Dec.{eqb}
+use Rattle.std.specs.Prelude.{Option, Some, None, Result, Ok, Err}
+use Rattle.std.specs.Result.{result_ok}
 use Rattle.schedule.specs.FrameMachine.{return}
 use Rattle.schedule.specs.Stretch.{Leads}
 use Rattle.table.specs.Words.{start_of, tag_at, b_at, c_at}
-use Rattle.arithmetic.specs.declared.Computed.{Computed}
-use Rattle.arithmetic.specs.declared.Computed.TheVariants.{Is}
+use Rattle.arithmetic.specs.declared.Failure.{Failure}
 use Rattle.arithmetic.specs.Operate.{computed}
 use Rattle.frames.specs.Frames.{pushed, turned, appended}
 use Rattle.frames.proofs.Writes.{is_appended}
@@ -22,13 +23,11 @@ use Rattle.moves.specs.Layout.{control_of}
 use Rattle.moves.specs.Ready.{Stands, Controlled}
 use Rattle.moves.proofs.Nodes.{inside, arithmetic_in, operation_in, choose_in, let_in}
 use Rattle.compact.specs.declared.Compact.{Compact}
-use Rattle.compact.specs.declared.Progress.{Progress}
-use Rattle.compact.specs.declared.Progress.TheVariants.{Go, Free, Paused, Value, Halt}
 use Rattle.compact.specs.Compact.{later_of, Roomy}
-use Rattle.operands.specs.Operands.{numbered, cost_at, frames_of, simple_at, SimpleAt, CostAt}
+use Rattle.operands.specs.Operands.{numbered, cost_at, frames_of, simple_at, LeafAt, SimpleAt, CostAt}
 use Rattle.strides.specs.Strides.{Site, Tagged, code_of, Jump, Jumps, Paired, whole, half, neither, Led}
 use Rattle.operands.proofs.Leading.{arithmetic_leads, choose_leads, let_leads}
-use Rattle.operands.proofs.Operands.{cost_few, frames_few, two_node, cost_fits, simple_fits, simple_leads}
+use Rattle.operands.proofs.Operands.{cost_few, frames_few, two_node, cost_fits, leaf_fits, simple_fits, simple_leads}
 
 -- A NODE at its place, and its children there
 module _ (w ls : List ℕ) (g : Compact) (seat : Seat) (start at : ℕ) (site : Site w ls g seat start at) where
@@ -60,8 +59,8 @@ module _ (w ls : List ℕ) (g : Compact) (seat : Seat) (start at : ℕ) (site : 
   child_simple q a k t e u h = simple_fits w seat.function site.table ls 0 t a (there q a e) few_locals (rw u at h)
 
   pub child_leads : (q a k : ℕ) → Stands w seat.function q seat.count → a ≡ start + 4 * q → k ≡ cost_at w a → 0 < k
-      → (r : Computed) → r ≡ simple_at w a ls 0 → (y : ℕ) → r ≡ Is y → Leads (language w) (code_of seat q ls) (return y) k (frames_of k)
-  child_leads q a k t e u h r c y d = rw u (simple_leads w seat.function site.table ls 0 t a (there q a e) few_locals (rw u at h) y (sym c ∙ d))
+      → (y : ℕ) → simple_at w a ls 0 ≡ Ok y → Leads (language w) (code_of seat q ls) (return y) k (frames_of k)
+  child_leads q a k t e u h y d = rw u (simple_leads w seat.function site.table ls 0 t a (there q a e) few_locals (rw u at h) y d)
 
   -- a jump, by its number of transitions
   pub jump : (ls' : List ℕ) (next : Compact) (to : Control) (k h : ℕ) → 1 ≤ k → next ≡ later_of g to g.depth k → Roomy g k h
@@ -70,11 +69,12 @@ module _ (w ls : List ℕ) (g : Compact) (seat : Seat) (start at : ℕ) (site : 
       let x : k ≡ (k - 1) + 1 = omega arith in
       record { to = to; more = k - 1; most = h; is = rw x at is; leads = rw x at leads; room = rw x at room; stands = stands; sixteen = long }
 
--- WHAT A FORM HAS IN COMMON with the others: nothing comes of it, or its first child is looked at
-pub none_jumps : (w ls : List ℕ) (g : Compact) (seat : Seat) (r : Progress) → r ≡ Value 0 → Jumps w ls g seat ls r
-unfolding Jumps
-none_jumps w ls g seat r e = rw e refl
+-- a value that was taken out of a Result
+pub ok_is : {r s : Result ℕ Failure} {o : Option ℕ} {x : ℕ} → r ≡ s → o ≡ result_ok r → o ≡ Some x → s ≡ Ok x
+ok_is {r = Ok y} {x = x} e u v = let z : y ≡ x = cc in rw z at (sym e)
+ok_is {r = Err f} e u v = cc
 
+-- WHAT A FORM HAS IN COMMON with the others: its first child is looked at
 pub within : {w ls : List ℕ} {g : Compact} {seat : Seat} {start at : ℕ} → Site w ls g seat start at → at + 4 ≤ length w
 within {w} {ls} {g} {seat} {start} {at} site = here_inside w ls g seat start at site
 
@@ -97,12 +97,17 @@ module _ {w ls : List ℕ} {g : Compact} {seat : Seat} {start at : ℕ} (site : 
   pub first_simple : (k : ℕ) → k ≡ cost_at w (at + 4) → 0 < k → SimpleAt w (at + 4) ls 0
   first_simple k e h = child_simple w ls g seat start at site (seat.node + 1) (at + 4) k t (first_word w ls g seat start at site) e h
 
-  pub first_led : (k : ℕ) → k ≡ cost_at w (at + 4) → 0 < k → (r : Computed) → r ≡ simple_at w (at + 4) ls 0 → (x : ℕ) → r ≡ Is x → Led w ls seat x k
-  first_led k e h r u x v = record {
+  pub first_led : (k : ℕ) → k ≡ cost_at w (at + 4) → 0 < k → (x : ℕ) → simple_at w (at + 4) ls 0 ≡ Ok x → Led w ls seat x k
+  first_led k e h x v = record {
     some = h;
     few = first_few site k e;
-    first = child_leads w ls g seat start at site (seat.node + 1) (at + 4) k t (first_word w ls g seat start at site) e h r u x v;
+    first = child_leads w ls g seat start at site (seat.node + 1) (at + 4) k t (first_word w ls g seat start at site) e h x v;
   }
+
+-- a constant or a local
+pub leaf_here : {w ls : List ℕ} {g : Compact} {seat : Seat} {start at : ℕ} → Site w ls g seat start at → get_or w at 0 < 2 → LeafAt w at ls 0
+leaf_here {w} {ls} {g} {seat} {start} {at} site h =
+    leaf_fits w seat.function site.table ls 0 site.stands at (here w ls g seat start at site) h (few_locals w ls g seat start at site)
 
 -- A CHOOSE
 module _ {w ls : List ℕ} {g : Compact} {seat : Seat} {start at : ℕ} (t : Tagged w ls g seat start at 3) where
@@ -171,24 +176,24 @@ module _ {w ls : List ℕ} {g : Compact} {seat : Seat} {start at : ℕ} (t : Tag
   right_cost q e = child_cost w ls g seat start at t.site q (start + 4 * q) (rw e pair_right) refl
 
   -- both operands are simple
-  pub jump_pair : (next : Compact) (x k l a b h right y v : ℕ) (r r' : Computed) → Led w ls seat x k → right ≡ start + 4 * get_or w (at + 2) 0 → l ≡ cost_at w right → 0 < l
-      → r ≡ simple_at w right ls 0 → r ≡ Is y → r' ≡ computed (numbered (get_or w (at + 1) 0)) x y → r' ≡ Is v
+  pub jump_pair : (next : Compact) (x k l a b h right y v : ℕ) → Led w ls seat x k → right ≡ start + 4 * get_or w (at + 2) 0 → l ≡ cost_at w right → 0 < l
+      → simple_at w right ls 0 ≡ Ok y → computed (numbered (get_or w (at + 1) 0)) x y ≡ Ok v
       → a ≡ frames_of k → b ≡ frames_of l → h ≡ max a b → Roomy g (k + l + 3) (h + 1) → next ≡ later_of g (Ret v) g.depth (k + l + 3)
       → Jump w ls g seat ls next
   unfolding control_of Controlled
-  jump_pair next x k l a b h right y v r r' led er el some es ey eo ev ea eb eh room n =
+  jump_pair next x k l a b h right y v led er el some ey ev ea eb eh room n =
       let t' = tag_here w ls g seat start at t.site 2 t.is in
       let o = operation_in w t.site.table t.site.stands t' in
       let same = two_node w seat.function seat.node o.0 (b_at w (start_of w seat.function) seat.node) t' o.1 in
-      let op : computed o.0 x y ≡ Is v = rw (← same, ← here w ls g seat start at t.site) (sym eo ∙ ev) in
+      let op : computed o.0 x y ≡ Ok v = rw (← same, ← here w ls g seat start at t.site) ev in
       let lead = arithmetic_leads w seat.function seat.node (take seat.count ls) o.0 (b_at w (start_of w seat.function) seat.node) x y v k l (frames_of k) (frames_of l) o.1
-      led.first (rw (← b_is) (child_leads w ls g seat start at t.site (get_or w (at + 2) 0) right l pair_right er el some r es y ey)) op in
+      led.first (rw (← b_is) (child_leads w ls g seat start at t.site (get_or w (at + 2) 0) right l pair_right er el some y ey)) op in
       jump w ls g seat start at t.site ls next (Ret v) (k + l + 3) (h + 1) (omega arith) n room (rw (eh, ea, eb) lead) tt t.site.sixteen
 
   -- or its frame is written with the left one
   pub half_paired : (ws ws₁ ws' : List ℕ) (next : Compact) (x k h q : ℕ) → Led w ls seat x k → h ≡ frames_of k → Roomy g (k + 2) (h + 1) → q ≡ get_or w (at + 2) 0
       → ws₁ ≡ pushed ws (32 * g.depth) 1 seat.function seat.node seat.count ls 0 → ws' ≡ turned ws₁ (32 * g.depth) 1 x 0
-      → next ≡ later_of g (Eval seat.function q seat.count) (g.depth + 1) (k + 2) → Paired w ws ls g seat ws' (Go next)
+      → next ≡ later_of g (Eval seat.function q seat.count) (g.depth + 1) (k + 2) → Paired w ws ls g seat ws' (Some next)
   half_paired ws ws₁ ws' next x k h q led eh room eq e₁ e n = half next refl (record {
     left = x;
     cost = k;
@@ -201,13 +206,6 @@ module _ {w ls : List ℕ} {g : Compact} {seat : Seat} {start at : ℕ} (t : Tag
     words = rw (← e₁) e;
   })
 
-pub none_paired : (w ws ls : List ℕ) (g : Compact) (seat : Seat) (r : Progress) → r ≡ Value 0 → Paired w ws ls g seat ws r
-none_paired w ws ls g seat r e = neither (λ next u. let z : ◌≡◌ {A = ℕ} 0 1 = cc in omega arith) refl
-
-pub whole_paired : (w ws ls : List ℕ) (g : Compact) (seat : Seat) (r : Progress) → Jumps w ls g seat ls r → Paired w ws ls g seat ws r
-unfolding Jumps
-whole_paired w ws ls g seat (Go next) j = whole next refl refl j
-whole_paired w ws ls g seat (Free next event) j = neither (λ next u. let z : ◌≡◌ {A = ℕ} 0 1 = cc in omega arith) refl
-whole_paired w ws ls g seat (Paused p) j = neither (λ next u. let z : ◌≡◌ {A = ℕ} 0 1 = cc in omega arith) refl
-whole_paired w ws ls g seat (Value v) j = neither (λ next u. let z : ◌≡◌ {A = ℕ} 0 1 = cc in omega arith) refl
-whole_paired w ws ls g seat (Halt h) j = neither (λ next u. let z : ◌≡◌ {A = ℕ} 0 1 = cc in omega arith) refl
+pub whole_paired : (w ws ls : List ℕ) (g : Compact) (seat : Seat) (r : Option Compact) → Jumps w ls g seat ls r → Paired w ws ls g seat ws r
+whole_paired w ws ls g seat (Some next) j = whole next refl refl j
+whole_paired w ws ls g seat None j = neither refl refl

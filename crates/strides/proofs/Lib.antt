@@ -4,4 +4,5 @@ pub mod Forms
 pub mod Calls
 pub mod Settling
 pub mod Striding
+pub mod Striking
 pub mod Pausing

@@ -35,26 +35,17 @@ use Rattle.strides.specs.Strides as strides
 use Rattle.strides.proofs.Settling.{small, move_settles, move_frees, kept_strides, fork_stepped, fork_goes}
 use Rattle.strides.proofs.Striding.{returned, done_strides}
 
--- a promotion is another pause than the limit
-unfoldable is_limit : Pause → ℕ
-is_limit pause.Limit = 1
-is_limit pause.Promotion = 0
-is_limit (pause.Fork seat) = 0
-is_limit (pause.Turn v top) = 0
-is_limit (pause.Join v top kind) = 0
+abbrev twenty : Seat → Progress
+twenty seat = Halt (record { number = 20; function = seat.function; node = seat.node })
 
-pub promotion_no_limit : pause.Promotion ≡ pause.Limit → ⊥
-unfolding is_limit
-promotion_no_limit e = let no : ◌≡◌ {A = ℕ} 0 1 = ap is_limit e in omega arith
-
-module _ (w ws ls : List ℕ) (plan : Plan) (g : Compact) where
+module _ {w ws ls : List ℕ} {plan : Plan} {g : Compact} where
   -- the registers can be expanded
   pub expands : Starts w ws ls plan g → (g.since ≤ g.transitions) × ((full g).span.0 < 2 ^ 60)
   expands s = (s.paced.since, (bounds w ws ls plan (full g) s.ready).1)
 
   -- BELOW THE LIMIT no promotion is due, and there is fuel
   pub below : Starts w ws ls plan g → g.transitions < g.limit → Calm w ws ls plan g × Paid plan (full g)
-  below s h = (record { starts = s; not_due = never_due plan g s.paced (small w ws ls plan g s).depth h }, omega (arith, s.paced.fuel))
+  below s h = (record { starts = s; not_due = never_due plan g s.paced (small s).depth h }, omega (arith, s.paced.fuel))
 
   -- AT IT, where none is due, the fuel is spent
   pub spent_at : Starts w ws ls plan g → g.limit ≤ g.transitions → (leb plan.period (full g).credits.0 && ltb g.oldest g.depth) ≡ false
@@ -66,38 +57,35 @@ module _ (w ws ls : List ℕ) (plan : Plan) (g : Compact) where
   pause_ends p n a = record {
     passes = pauses p refl refl refl a;
     resolved = λ e. n cc;
-    stays = λ next e. let no : ◌≡◌ {A = ℕ} 0 1 = cc in omega arith;
+    stays = λ next e. cc;
   }
 
   -- a stop there
-  module _ (c : Calm w ws ls plan g) (h : plan.fuel.0 ≤ g.transitions) (seat : Seat) where
-    abbrev twenty : Progress
-    twenty = Halt (record { number = 20; function = seat.function; node = seat.node })
-
-    stop_ends : Stepped w ws ls plan (full g) ws ls (halted 20 seat.function seat.node) → (r : Progress) → r ≡ twenty → Ends w ws ls plan g r
+  module _ (c : Calm w ws ls plan g) (h : plan.fuel.0 ≤ g.transitions) where
+    stop_ends : (seat : Seat) → Stepped w ws ls plan (full g) ws ls (halted 20 seat.function seat.node) → (r : Progress) → r ≡ twenty seat → Ends w ws ls plan g r
     unfolding step_of PacedBy Transits
-    stop_ends m r e = rw e (record {
-      passes = made (kept_strides w ws ls plan g c ws ls (halted 20 seat.function seat.node) m twenty refl tt tt);
-      resolved = λ i. let no : ◌≡◌ {A = ℕ} 0 1 = cc in omega arith;
-      stays = λ next i. let no : ◌≡◌ {A = ℕ} 0 1 = cc in omega arith;
+    stop_ends seat m r e = rw e (record {
+      passes = made (kept_strides c ws ls (halted 20 seat.function seat.node) m (twenty seat) refl tt tt);
+      resolved = λ i. cc;
+      stays = λ next i. cc;
     })
 
-    pub node_spent : g.control ≡ Eval seat.function seat.node seat.count → (tag_at w (start_of w seat.function) seat.node ≡ 6 → plan.birth ≡ false) → (r : Progress) → r ≡ twenty → Ends w ws ls plan g r
-    node_spent is low r e =
+    pub node_spent : {seat : Seat} → g.control ≡ Eval seat.function seat.node seat.count → (tag_at w (start_of w seat.function) seat.node ≡ 6 → plan.birth ≡ false) → (r : Progress) → r ≡ twenty seat → Ends w ws ls plan g r
+    node_spent {seat} is low r e =
         let ready = c.starts.ready in
         let site = here w ws ls plan (full g) ready seat.function seat.node seat.count is in
         let code : Code = record { function = seat.function; node = seat.node; locals = take seat.count ls } in
-        stop_ends (stepped_spent w ws ls plan (full g) ready seat.function seat.node seat.count is h
+        stop_ends seat (stepped_spent w ws ls plan (full g) ready seat.function seat.node seat.count is h
         (λ b d i. low (tag_is w ready.kept.table site ∙ fork_tag w code (node_at w (start_of w seat.function) seat.node) b d i)) _ refl) r e
 
-    pub value_spent : (v top kind : ℕ) → Returning w ws ls plan g v top kind → kind < 7 → seat ≡ seat_at ws (32 * top) → (r : Progress) → r ≡ twenty → Ends w ws ls plan g r
-    value_spent v top kind q low is r e = stop_ends (stepped_dry w ws ls plan (full g) v top kind (returned w ws ls plan g v top kind q) h low seat is _ refl) r e
+    pub value_spent : {seat : Seat} {v top kind : ℕ} → Returning w ws ls plan g v top kind → kind < 7 → seat ≡ seat_at ws (32 * top) → (r : Progress) → r ≡ twenty seat → Ends w ws ls plan g r
+    value_spent {seat} {v} {top} {kind} q low is r e = stop_ends seat (stepped_dry w ws ls plan (full g) v top kind (returned q) h low seat is _ refl) r e
 
-  pub value_ends : Calm w ws ls plan g → (v : ℕ) → g.control ≡ Ret v → g.depth ≡ 0 → Ends w ws ls plan g (Value v)
-  value_ends c v e d = record {
-    passes = made (done_strides w ws ls plan g c v e d);
-    resolved = λ i. let no : ◌≡◌ {A = ℕ} 0 1 = cc in omega arith;
-    stays = λ next i. let no : ◌≡◌ {A = ℕ} 0 1 = cc in omega arith;
+  pub value_ends : Calm w ws ls plan g → {v : ℕ} → g.control ≡ Ret v → g.depth ≡ 0 → Ends w ws ls plan g (Value v)
+  value_ends c {v} e d = record {
+    passes = made (done_strides c v e d);
+    resolved = λ i. cc;
+    stays = λ next i. cc;
   }
 
 -- NO FORK is open in the machine that goes on
@@ -130,20 +118,20 @@ module _ (w ws ls : List ℕ) (plan : Plan) (g : Compact) (seat : Seat) (a : Awa
     pub fork_restarts : g.depth < length ws / 32 → Settles plan o × Forkless o
     fork_restarts h =
         let x = fork_goes g forked_here h in
-        (move_settles w ws ls plan g fork_calm ws' ls o forked_steps, forkless o x.0 x.1 (x.3 ∙ fork_calm.starts.ready.kept.born born_here))
+        (move_settles fork_calm ws' ls o forked_steps, forkless o x.0 x.1 (x.3 ∙ fork_calm.starts.ready.kept.born born_here))
 
     pub fork_frees : g.depth < length ws / 32 → (r : Progress) → r ≡ freed_by (Fork g.depth) (settled_of plan o) → Frees w ws ls plan g (Fork g.depth) ws' ls r
     unfolding Occurs
     fork_frees h r i =
         let x = fork_goes g forked_here h in
-        move_frees w ws ls plan g fork_calm ws' ls o forked_steps (Fork g.depth) x.0 x.1 (strides.born fork_calm born_here x.2 refl) r i
+        move_frees fork_calm ws' ls o forked_steps (Fork g.depth) x.0 x.1 (strides.born fork_calm born_here x.2 refl) r i
 
   pub fork_crowded : length ws / 32 ≤ g.depth → (r : Progress) → r ≡ Halt (record { number = 21; function = seat.function; node = seat.node })
       → Strides w ws ls plan g ws ls r × ((next : Compact) → r ≡ Go next → ⊥)
   unfolding Awaits step_of PacedBy Transits
   fork_crowded h r e = rw e (
-    kept_strides w ws ls plan g fork_calm ws ls (halted 21 seat.function seat.node) (fork_stepped fork_calm a.1 a.2 ws refl (born born_here (Forked.full h refl refl))) _ refl tt tt,
-    λ next i. let no : ◌≡◌ {A = ℕ} 0 1 = cc in omega arith,
+    kept_strides fork_calm ws ls (halted 21 seat.function seat.node) (fork_stepped fork_calm a.1 a.2 ws refl (born born_here (Forked.full h refl refl))) _ refl tt tt,
+    λ next i. cc,
   )
 
 -- A VALUE ARRIVES at a promoted fork
@@ -153,7 +141,7 @@ restarted_next s (step.Go next) h = (next, refl, h)
 restarted_next s (step.Value v) h = absurd h
 restarted_next s (step.Halt x) h = absurd h
 
-module _ (w ws ls : List ℕ) (plan : Plan) (g : Compact) (v top kind : ℕ) (q : Returning w ws ls plan g v top kind) (high : 7 ≤ kind)
+module _ {w ws ls : List ℕ} {plan : Plan} {g : Compact} {v top kind : ℕ} (q : Returning w ws ls plan g v top kind) (high : 7 ≤ kind)
     (s : Registers) (e : s ≡ full g) (ws' ls' : List ℕ) (o : Step) (m : Stepped w ws ls plan s ws' ls' o × Restarts s o) where
   no_fork : g.oldest ≡ 4096
   no_fork =
@@ -167,9 +155,9 @@ module _ (w ws ls : List ℕ) (plan : Plan) (g : Compact) (v top kind : ℕ) (q 
   pub arrival_restarts : Settles plan o × Forkless o
   arrival_restarts =
       let x = restarted_next s o m.1 in
-      (move_settles w ws ls plan g q.calm ws' ls' o arrives, forkless o x.0 x.1 (x.2 ∙ ap (λ (y : Registers). y.oldest) e ∙ no_fork))
+      (move_settles q.calm ws' ls' o arrives, forkless o x.0 x.1 (x.2 ∙ ap (λ (y : Registers). y.oldest) e ∙ no_fork))
 
   pub arrival_frees : (event : Event) → ((next : Compact) → Occurs w ws ls plan g next event) → (r : Progress) → r ≡ freed_by event (settled_of plan o) → Frees w ws ls plan g event ws' ls' r
   arrival_frees event occurs r i =
       let x = restarted_next s o m.1 in
-      move_frees w ws ls plan g q.calm ws' ls' o arrives event x.0 x.1 (occurs _) r i
+      move_frees q.calm ws' ls' o arrives event x.0 x.1 (occurs _) r i

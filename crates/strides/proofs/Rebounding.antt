@@ -1,14 +1,13 @@
 -- A value that returns to an arithmetic frame: where the right operand is simple, the operation is made and the frame closed.
+use Rattle.std.specs.Prelude.{Ok}
 use Prim.Native.Nat.{ℕ, ◌+◌, ◌*◌, ◌≤◌, ◌<◌}
-use mathlib.Core.Path.{◌≡◌, sym, ◌∙◌}
+use mathlib.Core.Path.{◌≡◌, ap}
 use mathlib.Core.List.{List}
 use native.Mathlib.Omega.{arith}
 use lib.ListN.{length, get_or}
-use Rattle.table.specs.Words.{start_of, body_at, b_at}
-use Rattle.table.specs.Read.{starts_of}
+use Rattle.table.specs.Words.{functions, start_of, body_at, b_at}
+use Rattle.table.specs.WellFormed.{WellFormed}
 use Rattle.table.proofs.Views.{at_arithmetic}
-use Rattle.arithmetic.specs.declared.Computed.{Computed}
-use Rattle.arithmetic.specs.declared.Computed.TheVariants.{Is}
 use Rattle.arithmetic.specs.Operate.{computed}
 use Rattle.frames.specs.declared.Seat.{Seat}
 use Rattle.frames.specs.Frames.{locals_word, frame_function, frame_node, frame_count, seat_at, frame_locals}
@@ -21,60 +20,60 @@ use Rattle.compact.specs.Compact.{later_of, Roomy}
 use Rattle.operands.specs.Operands.{numbered, cost_at, frames_of, simple_at, SimpleAt, CostAt}
 use Rattle.strides.specs.Strides.{Rebound}
 use Rattle.operands.proofs.Leading.{right_through}
-use Rattle.operands.proofs.Operands.{cost_few, frames_few, two_node, cost_fits, simple_fits, simple_leads}
+use Rattle.operands.proofs.Operands.{two_node, cost_fits, simple_fits, simple_leads}
 
--- The seat of the frame `top` was read as r; it is of the function F and the node P. The function's body starts at word `get_or starts r.function 0`.
-module _ {w ws starts : List ℕ} (top : ℕ) (op : Operand w ws (32 * top)) (e : starts ≡ starts_of w) {r : Seat} (is : r ≡ seat_at ws (32 * top)) where
+-- The seat of the frame `top` was read as r; it is of the function F and the node P. The function's body starts at word `start`.
+module _ {w ws : List ℕ} (top : ℕ) (op : Operand w ws (32 * top)) {r : Seat} (is : r ≡ seat_at ws (32 * top)) where
   abbrev F : ℕ
   F = frame_function ws (32 * top)
 
   abbrev P : ℕ
   P = frame_node ws (32 * top)
 
-  pub frame_start : r.function < length starts
-  frame_start = frames.frame_start w ws starts (32 * top) op.table op.stands e r is
+  pub start_asked : WellFormed w × (r.function < functions w)
+  start_asked = frames.frame_start ws (32 * top) op.table op.stands is
 
-  pub frame_inside : get_or starts r.function 0 + 4 * r.node + 4 ≤ length w
-  frame_inside = frames.frame_inside w ws starts (32 * top) op.table op.stands e r is
+  module _ {start : ℕ} (place : start ≡ start_of w r.function) where
+    pub frame_inside : start + 4 * r.node + 4 ≤ length w
+    frame_inside = frames.frame_inside ws (32 * top) op.table op.stands is place
 
-  start_here : get_or starts r.function 0 ≡ start_of w F
-  start_here = frames.start_here w ws starts (32 * top) op.table op.stands e r is
+    start_here : start ≡ start_of w F
+    start_here = rw is at place
 
-  node_here : get_or starts r.function 0 + 4 * r.node ≡ start_of w F + 4 * P
-  node_here = rw (start_here, is)
+    node_here : start + 4 * r.node ≡ start_of w F + 4 * P
+    node_here = rw (start_here, is)
 
-  -- the right operand is at position q
-  module _ {q : ℕ} (is-q : q ≡ get_or w (get_or starts r.function 0 + 4 * r.node + 2) 0) where
+    -- the right operand's position
+    abbrev q : ℕ
+    q = get_or w (start + 4 * r.node + 2) 0
+
     q_is : q ≡ b_at w (start_of w F) P
-    q_is = rw node_here at is-q
+    q_is = ap (λ (z : ℕ). get_or w (z + 2) 0) node_here
 
     right_stands : Stands w F q (frame_count ws (32 * top))
     right_stands = rw q_is (arithmetic_in w op.table op.stands op.tag).1
 
-    right_here : get_or starts r.function 0 + 4 * q ≡ start_of w F + 4 * q
+    right_here : start + 4 * q ≡ start_of w F + 4 * q
     right_here = rw start_here
 
     locals_here : locals_word (32 * top) + frame_count ws (32 * top) ≤ length ws
     locals_here = omega (arith, op.room, op.stands.few)
 
-    pub right_cost : CostAt w (get_or starts r.function 0 + 4 * q)
+    pub right_cost : CostAt w (start + 4 * q)
     right_cost = cost_fits w F op.table ws (locals_word (32 * top)) right_stands _ right_here
 
-    pub right_few : {k : ℕ} → k ≡ cost_at w (get_or starts r.function 0 + 4 * q) → (k ≤ 5) × (frames_of k ≤ 1)
-    right_few {k} is-k = (rw is-k (cost_few w (get_or starts r.function 0 + 4 * q)), frames_few k)
-
-    pub right_simple : {k : ℕ} → k ≡ cost_at w (get_or starts r.function 0 + 4 * q) → 0 < k → SimpleAt w (get_or starts r.function 0 + 4 * q) ws (locals_word (32 * top))
+    pub right_simple : {k : ℕ} → k ≡ cost_at w (start + 4 * q) → 0 < k → SimpleAt w (start + 4 * q) ws (locals_word (32 * top))
     right_simple is-k some = simple_fits w F op.table ws (locals_word (32 * top)) right_stands _ right_here locals_here (rw is-k at some)
 
     -- it has the value y by k transitions, and the operation the value z
-    pub rebounded : {g next : Compact} {v k h y z : ℕ} {c c' : Computed} → k ≡ cost_at w (get_or starts r.function 0 + 4 * q) → h ≡ frames_of k
-        → (0 < k) × Roomy g (k + 2) h → c ≡ simple_at w (get_or starts r.function 0 + 4 * q) ws (locals_word (32 * top)) → c ≡ Is y
-        → c' ≡ computed (numbered (get_or w (get_or starts r.function 0 + 4 * r.node + 1) 0)) v y → c' ≡ Is z → next ≡ later_of g (Ret z) top (k + 2) → Rebound w ws g v top next
-    rebounded {g} {next} {v} {k} {h} {y} {z} is-k is-h room is_c value is-c' result n =
+    pub rebounded : {g next : Compact} {v k h y z : ℕ} → k ≡ cost_at w (start + 4 * q) → h ≡ frames_of k
+        → (0 < k) × Roomy g (k + 2) h → simple_at w (start + 4 * q) ws (locals_word (32 * top)) ≡ Ok y
+        → computed (numbered (get_or w (start + 4 * r.node + 1) 0)) v y ≡ Ok z → next ≡ later_of g (Ret z) top (k + 2) → Rebound w ws g v top next
+    rebounded {g} {next} {v} {k} {h} {y} {z} is-k is-h room value result n =
         let a = at_arithmetic w (body_at w F) op.stands.tree op.tag in
         let same = two_node w F P a.0 (b_at w (start_of w F) P) op.tag a.1 in
-        let done : computed a.0 v y ≡ Is z = rw (← same, ← node_here) (sym is-c' ∙ result) in
-        let right = simple_leads w F op.table ws (locals_word (32 * top)) right_stands _ right_here locals_here (rw is-k at room.0) y (sym is_c ∙ value) in
+        let done : computed a.0 v y ≡ Ok z = rw (← same, ← node_here) result in
+        let right = simple_leads w F op.table ws (locals_word (32 * top)) right_stands _ right_here locals_here (rw is-k at room.0) y value in
         let through = right_through w F P (frame_locals ws (32 * top)) a.0 (b_at w (start_of w F) P) v y z k h a.1 (rw (← is-k, ← is-h, q_is) at right) done in
         let x : k + 2 ≡ k + 1 + 1 = omega arith in
         record { value = z; more = k + 1; most = h; is = rw x at n; through = rw x at through; room = rw x at room.1 }

@@ -33,7 +33,7 @@ use Rattle.compact.specs.declared.Compact.{Compact}
 use Rattle.compact.specs.declared.Event.{Event}
 use Rattle.compact.specs.declared.Event.TheVariants.{Fork, Turn, Join}
 use Rattle.compact.specs.declared.Progress.{Progress}
-use Rattle.compact.specs.Compact.{full, step_of, PacedBy, compact_of, settled_of, Settles, freed_by, Transits, Small}
+use Rattle.compact.specs.Compact.{full, step_of, PacedBy, compact_of, answer_of, settled_of, Settles, freed_by, Transits, Small}
 use Rattle.compact.proofs.Keeping.{compact_full, compact_paced}
 use Rattle.operands.specs.Operands.{leaf_at}
 use Rattle.strides.specs.Strides.{one, Starts, Calm, Returning, Forks, Occurs, Strides, Frees, Evaluating}
@@ -65,8 +65,8 @@ plain_rises turns_freely p = absurd p
 plain_rises joins_freely p = absurd p
 
 moved : {K : CostAlgebra} {M : FrameMachine} {fuel frames : ℕ} {born : Bool} {s u : State K M} {o : Result K M} → MoveView K M fuel frames born s o → o ≡ ongoing u → Move K M fuel frames born s u
-moved is_value e = let no : ◌≡◌ {A = ℕ} 0 1 = cc in absurd (omega arith)
-moved (is_halt h) e = let no : ◌≡◌ {A = ℕ} 0 1 = cc in absurd (omega arith)
+moved is_value e = cc
+moved (is_halt h) e = cc
 moved {K} {M} {fuel} {frames} {born} {s} {u} (is_step {u = x} m) e = let same : x ≡ u = cc in subst (λ (y : State K M). Move K M fuel frames born s y) same m
 
 plain_slot : (k : ℕ) (c : Code) (v : ℕ) (vs : List ℕ) (g l : ℕ) → k < 7 → Plain (slot_of k c v vs g l)
@@ -97,7 +97,7 @@ transitions_of (Value v) = 0
 transitions_of (Halt h) = 0
 
 -- WHAT A STRIDE STARTS FROM
-module _ (w ws ls : List ℕ) (plan : Plan) (g : Compact) (s : Starts w ws ls plan g) where
+module _ {w ws ls : List ℕ} {plan : Plan} {g : Compact} (s : Starts w ws ls plan g) where
   pub small : Small g
   small = record { transitions = (bounds w ws ls plan (full g) s.ready).2; depth = omega (arith, s.ready.kept.room, s.ready.limits.frames) }
 
@@ -117,13 +117,13 @@ module _ (w ws ls : List ℕ) (plan : Plan) (g : Compact) (s : Starts w ws ls pl
 
     -- a step's answer in any compact registers that stand for it
     step_advanced : (o : Step) → Advanced w ws ls plan (full g) ws' ls' o → (r : Progress) → step_of r ≡ step_of (settled_of plan o) → Advanced w ws ls plan (full g) ws' ls' (step_of r)
-    unfolding settled_of step_of Settles
+    unfolding answer_of step_of Settles
     step_advanced (Go next) a r e = let x = step_settles (Go next) a in rw (e, compact_full plan next x.0 x.1 x.2) a
     step_advanced (Value v) a r e = rw e a
     step_advanced (Halt h) a r e = rw e a
 
     step_paced : (o : Step) → Advanced w ws ls plan (full g) ws' ls' o → PacedBy plan (settled_of plan o)
-    unfolding settled_of PacedBy Settles
+    unfolding answer_of PacedBy Settles
     step_paced (Go next) a = let x = step_settles (Go next) a in compact_paced plan next x.0 x.1 x.2
     step_paced (Value v) a = tt
     step_paced (Halt h) a = tt
@@ -133,14 +133,14 @@ module _ (w ws ls : List ℕ) (plan : Plan) (g : Compact) (s : Starts w ws ls pl
     step_strides o a up r e = rw e (record { strode = one (step_advanced o a (settled_of plan o) refl); paced = step_paced o a; transits = by o up })
       where
         by : (o : Step) → Rises g.transitions o → Transits g (settled_of plan o)
-        by (Go next) up = unfold settled_of Transits in up next refl
-        by (Value v) up = unfold settled_of Transits in tt
-        by (Halt h) up = unfold settled_of Transits in tt
+        by (Go next) up = unfold answer_of Transits in up next refl
+        by (Value v) up = unfold answer_of Transits in tt
+        by (Halt h) up = unfold answer_of Transits in tt
 
     -- one that is free
     pub step_frees : (event : Event) (o : Step) → Advanced w ws ls plan (full g) ws' ls' o → (next : Registers) → o ≡ Go next → Occurs w ws ls plan g (compact_of plan next) event
         → (r : Progress) → r ≡ freed_by event (settled_of plan o) → Frees w ws ls plan g event ws' ls' r
-    unfolding settled_of freed_by Settles
+    unfolding answer_of freed_by Settles
     step_frees event o a next e occurs r u =
         let b : Advanced w ws ls plan (full g) ws' ls' (Go next) = rw e at a in
         let x = step_settles (Go next) b in
@@ -153,19 +153,19 @@ module _ (w ws ls : List ℕ) (plan : Plan) (g : Compact) (s : Starts w ws ls pl
         }
 
 -- where no promotion is due, of a move
-module _ (w ws ls : List ℕ) (plan : Plan) (g : Compact) (c : Calm w ws ls plan g) (ws' ls' : List ℕ) (o : Step) (m : Stepped w ws ls plan (full g) ws' ls' o) where
+module _ {w ws ls : List ℕ} {plan : Plan} {g : Compact} (c : Calm w ws ls plan g) (ws' ls' : List ℕ) (o : Step) (m : Stepped w ws ls plan (full g) ws' ls' o) where
   pub move_advances : Advanced w ws ls plan (full g) ws' ls' o
   move_advances = advanced_move w ws ls plan (full g) c.starts.ready false (sym c.not_due) refl ws' ls' o m
 
   pub move_settles : Settles plan o
-  move_settles = step_settles w ws ls plan g c.starts ws' ls' o move_advances
+  move_settles = step_settles c.starts ws' ls' o move_advances
 
   pub move_strides : Rises g.transitions o → (r : Progress) → r ≡ settled_of plan o → Strides w ws ls plan g ws' ls' r
-  move_strides up r e = step_strides w ws ls plan g c.starts ws' ls' o move_advances up r e
+  move_strides up r e = step_strides c.starts ws' ls' o move_advances up r e
 
   pub move_frees : (event : Event) (next : Registers) → o ≡ Go next → Occurs w ws ls plan g (compact_of plan next) event
       → (r : Progress) → r ≡ freed_by event (settled_of plan o) → Frees w ws ls plan g event ws' ls' r
-  move_frees event next e occurs r u = step_frees w ws ls plan g c.starts ws' ls' event o move_advances next e occurs r u
+  move_frees event next e occurs r u = step_frees c.starts ws' ls' event o move_advances next e occurs r u
 
   -- by the same machine
   pub kept_strides : (r : Progress) → step_of r ≡ o → PacedBy plan r → Transits g r → Strides w ws ls plan g ws' ls' r
@@ -228,8 +228,8 @@ module _ {w ws ls : List ℕ} {plan : Plan} {g : Compact} {seat : Seat} {start a
   pub both_rises : plan.birth ≡ false → {ws' : List ℕ} {o : Step} → OpenedBoth ws ws' ls plan (full g) seat o → Rises g.transitions o
   unfolding transitions_of
   both_rises h (born x u) next e = absurd (true≢false (sym x ∙ h))
-  both_rises h (plain x (dry i q d)) next e = let no : ◌≡◌ {A = ℕ} 0 1 = cc in absurd (omega arith)
-  both_rises h (plain x (Opened.full i j q d)) next e = let no : ◌≡◌ {A = ℕ} 0 1 = cc in absurd (omega arith)
+  both_rises h (plain x (dry i q d)) next e = cc
+  both_rises h (plain x (Opened.full i j q d)) next e = cc
   both_rises h (plain x (opens i j q d)) next e = omega (arith, ap transitions_of (sym e ∙ d))
 
   pub leaf_stepped : tag < 2 → {o : Step} → o ≡ transited plan (full g) seat (Ret (leaf_at w at ls 0)) → Stepped w ws ls plan (full g) ws ls o

@@ -5,6 +5,7 @@ use mathlib.Core.Bool.{Bool}
 use mathlib.Core.List.{List, ◌∷◌}
 use native.Mathlib.Omega.{arith}
 use lib.ListN.{length, get_or, take, drop}
+use Rattle.std.specs.Prelude.{Option, Some}
 use borrow.Author.Tests.{ltb-true}
 use Rattle.schedule.specs.FrameMachine.{return, open_frame}
 use Rattle.schedule.specs.FrameMachine.{Control as FlatControl}
@@ -12,9 +13,9 @@ use Rattle.schedule.specs.Algebra.{CostAlgebra, spans}
 use Rattle.schedule.specs.Machine.{Slot, ordinary, promotable, state, Result, ongoing}
 use Rattle.schedule.specs.Stretch.{later, transits, Room}
 use Rattle.schedule.proofs.Stretch.{raise_within, code_leads, value_leads, code_opens, transits_span}
-use Rattle.table.specs.Words.{start_of, tag_at, b_at, c_at}
-use Rattle.table.specs.Nodes.{node_of, node_at}
-use Rattle.table.specs.Read.{starts_of}
+use Rattle.table.specs.Words.{functions, start_of, tag_at}
+use Rattle.table.specs.WellFormed.{WellFormed}
+use Rattle.table.specs.Nodes.{node_at}
 use Rattle.table.specs.declared.Node.{Node}
 use Rattle.table.specs.declared.Node.TheVariants.{Constant, Local, Arithmetic, Choose, Let, Call, Both, Unknown}
 use Rattle.table.proofs.Views.{tag_for}
@@ -29,24 +30,23 @@ use Rattle.frames.specs.declared.Seat.{Seat}
 use Rattle.moves.specs.declared.Step.{Step}
 use Rattle.moves.specs.declared.Step.TheVariants as step
 use Rattle.moves.specs.Layout.{code_at, slot_of, slot_at, stack_of, control_of, run_counts_of, state_of}
-use Rattle.moves.specs.Ready.{Stands, Controlled, Paid, Stepped, Ticks, Returns, Framed, Opened, Operand}
-use Rattle.moves.proofs.Nodes.{start_is, inside, known, tag_is, arithmetic_in, operation_in}
+use Rattle.moves.specs.Ready.{Stands, Controlled, Paid, Stepped, Ticks, Returns, Operand}
+use Rattle.moves.proofs.Nodes.{inside, known, tag_is, arithmetic_in, operation_in}
 use Rattle.moves.proofs.Stacks.{length_stack, stack_more, held_more, held_top, same_slots}
 use Rattle.moves.proofs.OldestFork.{oldest_other, oldest_under}
 use Rattle.moves.proofs.Promotion.{due_is}
 use Rattle.moves.proofs.Sparing.{spared_same, spared_turned, spared_pushed}
-use Rattle.moves.proofs.Steps.{start_read, node_read, stepped_arithmetic, stepped_choose, stepped_let}
 use Rattle.moves.proofs.Returning.{room, stepped_done}
 use Rattle.moves.proofs.Returning.{top as frame-top, tag_here as frame-tag}
 use Rattle.compact.specs.declared.Compact.{Compact}
 use Rattle.compact.specs.declared.Progress.{Progress}
-use Rattle.compact.specs.declared.Progress.TheVariants.{Go, Free, Paused, Value, Halt}
-use Rattle.compact.specs.Compact.{full, step_of, Paced, PacedBy, settled_of, Settles, kept_by, Transits, later_of, Roomy}
+use Rattle.compact.specs.declared.Progress.TheVariants.{Go, Value}
+use Rattle.compact.specs.Compact.{full, step_of, PacedBy, settled_of, Settles, kept_by, Transits, later_of, Roomy}
 use Rattle.compact.proofs.Keeping.{kept_ticks}
-use Rattle.strides.specs.Strides.{Many, one, many, Strides, Starts, Calm, Tagged, Evaluating, code_of, Jump, Jumps, Half, Paired, whole, half, Rebound, Rebounds, Returning}
-use Rattle.strides.proofs.Settling.{small, move_advances, move_settles, move_strides, paid_rises, kept_strides, returning_returns, site_tag, site_stands, site_framed}
+use Rattle.strides.specs.Strides.{Many, one, many, Strides, Starts, Calm, Tagged, Evaluating, code_of, Jump, Half, Rebound, Rebounds, Returning}
+use Rattle.strides.proofs.Settling.{small, move_advances, move_settles, move_strides, paid_rises, kept_strides, returning_returns, site_stands}
 
-module _ (w ws ls : List ℕ) (plan : Plan) (g : Compact) (s : Starts w ws ls plan g) where
+module _ {w ws ls : List ℕ} {plan : Plan} {g : Compact} (s : Starts w ws ls plan g) where
   abbrev K : CostAlgebra
   K = spans plan.tau
 
@@ -181,71 +181,22 @@ module _ (w ws ls : List ℕ) (plan : Plan) (g : Compact) (s : Starts w ws ls pl
           spared = spared_same ws;
         }) refl
 
-pub jumps_none : (w ls : List ℕ) (g : Compact) (seat : Seat) (ls' : List ℕ) (r : Progress) → Jumps w ls g seat ls' r → ((next : Compact) → r ≡ Go next → ⊥) → ls' ≡ ls
-unfolding Jumps
-jumps_none w ls g seat ls' (Go next) j n = absurd (n next refl)
-jumps_none w ls g seat ls' (Free next event) j n = j
-jumps_none w ls g seat ls' (Paused p) j n = j
-jumps_none w ls g seat ls' (Value v) j n = j
-jumps_none w ls g seat ls' (Halt h) j n = j
-
-pub paired_none : (w ws ls : List ℕ) (g : Compact) (seat : Seat) (ws' : List ℕ) (r : Progress) → Paired w ws ls g seat ws' r → ((next : Compact) → r ≡ Go next → ⊥) → ws' ≡ ws
-paired_none w ws ls g seat ws' r (whole next e i j) n = i
-paired_none w ws ls g seat ws' r (half next e j) n = absurd (n next e)
-paired_none w ws ls g seat ws' r (Paired.neither m i) n = i
-
 -- A NODE IS EVALUATED
-module _ (w ws ls : List ℕ) (plan : Plan) (g : Compact) (seat : Seat) (start at tag : ℕ) (v : Evaluating w ws ls plan g seat start at tag) where
+module _ {w ws ls : List ℕ} {plan : Plan} {g : Compact} {seat : Seat} {start at tag : ℕ} (v : Evaluating w ws ls plan g seat start at tag) where
   abbrev set_out : Starts w ws ls plan g
   set_out = v.calm.starts
 
   pub tagged : Tagged w ls g seat start at tag
   tagged = record {
-    site = record { table = set_out.ready.kept.table; stands = site_stands v; place = v.place; word = v.word; sixteen = set_out.ready.kept.sixteen; small = small w ws ls plan g set_out };
+    site = record { table = set_out.ready.kept.table; stands = site_stands v; place = v.place; word = v.word; sixteen = set_out.ready.kept.sixteen; small = small set_out };
     is = v.tagged;
   }
 
-  pub frame_fits : (ws₁ ls₁ : List ℕ) → ws₁ ≡ ws → ls₁ ≡ ls → Framed ws₁ ls₁ (full g) seat × Paced plan g × Paid plan (full g)
-  frame_fits ws₁ ls₁ x y = rw (x, y) (site_framed v, set_out.paced, v.paid)
-
-  pub jumps_strides : (ls' : List ℕ) (r : Progress) (next : Compact) → r ≡ Go next → Jumps w ls g seat ls' r → Strides w ws ls plan g ws ls' (Go next)
-  unfolding Jumps
-  jumps_strides ls' r next e j = jump_strides w ws ls plan g set_out seat v.is ls' next (rw e at j)
-
   -- by one step
   pub one_strides : (ws' ls' : List ℕ) (r : Progress) → Stepped w ws ls plan (full g) ws' ls' (step_of r) → PacedBy plan r × Transits g r → Strides w ws ls plan g ws' ls' r
-  one_strides ws' ls' r m p = kept_strides w ws ls plan g v.calm ws' ls' (step_of r) m r refl p.0 p.1
+  one_strides ws' ls' r m p = kept_strides v.calm ws' ls' (step_of r) m r refl p.0 p.1
 
-module _ (w ws ls : List ℕ) (plan : Plan) (g : Compact) (seat : Seat) (start at : ℕ) where
-  pub paired_strides : Evaluating w ws ls plan g seat start at 2 → (ws' : List ℕ) (r : Progress) (next : Compact) → r ≡ Go next → Paired w ws ls g seat ws' r → Strides w ws ls plan g ws' ls (Go next)
-  paired_strides v ws' r next e (whole n d i j) = let x : n ≡ next = cc in rw (i, ← x) (jump_strides w ws ls plan g v.calm.starts seat v.is ls n j)
-  paired_strides v ws' r next e (half n d j) = let x : n ≡ next = cc in rw (← x) (half_strides w ws ls plan g v.calm.starts seat v.is ws' n (site_tag v) j)
-  paired_strides v ws' r next e (Paired.neither n i) = absurd (n next e)
-
-  pub opened_arithmetic : Evaluating w ws ls plan g seat start at 2 → (ws₁ ws' : List ℕ) → ws₁ ≡ ws → length ws' ≡ length ws₁ → (r : Progress)
-      → (Opened ws₁ ws' ls plan (full g) seat 0 g.oldest (step_of r)) × (PacedBy plan r) × (Transits g r) → Strides w ws ls plan g ws' ls r
-  opened_arithmetic v ws₁ ws' x long r u =
-      let o = operation_in w v.calm.starts.ready.kept.table (site_stands v) (site_tag v) in
-      one_strides w ws ls plan g seat start at 2 v ws' ls r
-      (stepped_arithmetic w ws ls plan (full g) v.calm.starts.ready seat.function seat.node seat.count v.is ws' (rw x at long) (step_of r) o.0 _ o.1 (rw x at u.0)) (u.1, u.2)
-
-  pub opened_choose : Evaluating w ws ls plan g seat start at 3 → (ws' : List ℕ) → length ws' ≡ length ws → (r : Progress)
-      → (Opened ws ws' ls plan (full g) seat 2 g.oldest (step_of r)) × (PacedBy plan r) × (Transits g r) → Strides w ws ls plan g ws' ls r
-  unfolding node_of
-  opened_choose v ws' long r u =
-      one_strides w ws ls plan g seat start at 3 v ws' ls r
-      (stepped_choose w ws ls plan (full g) v.calm.starts.ready seat.function seat.node seat.count v.is ws' long (step_of r)
-      (b_at w (start_of w seat.function) seat.node) (c_at w (start_of w seat.function) seat.node) (rw (site_tag v)) u.0) (u.1, u.2)
-
-  pub opened_let : Evaluating w ws ls plan g seat start at 4 → (ls₁ ws' : List ℕ) → ls₁ ≡ ls → length ws' ≡ length ws → (r : Progress)
-      → (Opened ws ws' ls₁ plan (full g) seat 3 g.oldest (step_of r)) × (PacedBy plan r) × (Transits g r) → Strides w ws ls plan g ws' ls₁ r
-  unfolding node_of
-  opened_let v ls₁ ws' x long r u =
-      rw x (one_strides w ws ls plan g seat start at 4 v ws' ls r
-      (stepped_let w ws ls plan (full g) v.calm.starts.ready seat.function seat.node seat.count v.is ws' long (step_of r)
-      (b_at w (start_of w seat.function) seat.node) (rw (site_tag v)) (rw x at u.0)) (u.1, u.2))
-
--- the node's word, through the array of starts
+-- the node's word
 tag_low : (n : Node) → (n ≡ Unknown → ⊥) → tag_for n < 7
 unfolding tag_for
 tag_low (Constant v) h = omega arith
@@ -257,64 +208,48 @@ tag_low (Call f b c) h = omega arith
 tag_low (Both b c) h = omega arith
 tag_low Unknown h = absurd (h refl)
 
-pub leaf_tag : (t : ℕ) → (t ≡ 2 → ⊥) → (t ≡ 3 → ⊥) → (t ≡ 4 → ⊥) → (t ≡ 5 → ⊥) → (t ≡ 6 → ⊥) → t < 7 → t < 2
-leaf_tag t n2 n3 n4 n5 n6 h = low (high n5 n6 h) n2 n3 n4
-  where
-    high : (t ≡ 5 → ⊥) → (t ≡ 6 → ⊥) → t < 7 → t < 5
-    high n5 n6 h = omega arith
-
-    low : t < 5 → (t ≡ 2 → ⊥) → (t ≡ 3 → ⊥) → (t ≡ 4 → ⊥) → t < 2
-    low h n2 n3 n4 = omega arith
-
-module _ (w ws ls : List ℕ) (plan : Plan) (g : Compact) (c : Calm w ws ls plan g) (seat : Seat) (e : g.control ≡ Eval seat.function seat.node seat.count) (starts : List ℕ) (a : starts ≡ starts_of w) where
+module _ {w ws ls : List ℕ} {plan : Plan} {g : Compact} (c : Calm w ws ls plan g) {seat : Seat} (e : g.control ≡ Eval seat.function seat.node seat.count) where
   site_here : Stands w seat.function seat.node seat.count
-  site_here = here w ws ls plan g c.starts seat e
+  site_here = here c.starts seat e
 
-  place_here : get_or starts seat.function 0 ≡ start_of w seat.function
-  place_here = start_is w c.starts.ready.kept.table starts a site_here
+  pub start_asked : WellFormed w × (seat.function < functions w)
+  start_asked = (c.starts.ready.kept.table, site_here.function)
 
-  pub function_few : seat.function < 64
-  function_few = omega (arith, site_here.function, c.starts.ready.kept.table.contents.header.few)
+  -- the body starts at word `start`
+  module _ {start : ℕ} (place : start ≡ start_of w seat.function) where
+    pub word_inside : start + 4 * seat.node + 4 ≤ length w
+    word_inside = rw place (inside w c.starts.ready.kept.table site_here).0
 
-  pub starts_inside : seat.function < length starts
-  starts_inside = start_read w ws ls plan (full g) c.starts.ready seat.function seat.node seat.count e starts a
+    pub tag_here : get_or w (start + 4 * seat.node) 0 ≡ tag_at w (start_of w seat.function) seat.node
+    tag_here = rw place
 
-  pub word_inside : get_or starts seat.function 0 + 4 * seat.node + 4 ≤ length w
-  word_inside = node_read w ws ls plan (full g) c.starts.ready seat.function seat.node seat.count e starts a
+    pub tag_few : get_or w (start + 4 * seat.node) 0 < 7
+    tag_few = rw place (omega (arith, tag_is w c.starts.ready.kept.table site_here, tag_low (node_at w (start_of w seat.function) seat.node) (known w c.starts.ready.kept.table site_here)))
 
-  pub node_few : seat.node < 4000
-  node_few = (inside w c.starts.ready.kept.table site_here).1
-
-  pub tag_here : get_or w (get_or starts seat.function 0 + 4 * seat.node) 0 ≡ tag_at w (start_of w seat.function) seat.node
-  tag_here = rw place_here
-
-  pub evaluating : Paid plan (full g) → (tag : ℕ) → get_or w (get_or starts seat.function 0 + 4 * seat.node) 0 ≡ tag → Evaluating w ws ls plan g seat (get_or starts seat.function 0) (get_or starts seat.function 0 + 4 * seat.node) tag
-  evaluating h tag t = record { calm = c; is = e; place = place_here; word = refl; tagged = t; paid = h }
-
-  pub tag_few : get_or w (get_or starts seat.function 0 + 4 * seat.node) 0 < 7
-  tag_few = rw place_here (omega (arith, tag_is w c.starts.ready.kept.table site_here, tag_low (node_at w (start_of w seat.function) seat.node) (known w c.starts.ready.kept.table site_here)))
+    pub evaluating : Paid plan (full g) → {tag : ℕ} → get_or w (start + 4 * seat.node) 0 ≡ tag → Evaluating w ws ls plan g seat start (start + 4 * seat.node) tag
+    evaluating h t = record { calm = c; is = e; place = place; word = refl; tagged = t; paid = h }
 
 -- A MOVE BY THE REGISTERS s that g stands for
-module _ (w ws ls : List ℕ) (plan : Plan) (g : Compact) (c : Calm w ws ls plan g) (s : Registers) (e : s ≡ full g) (ws' ls' : List ℕ) (o : Step) (m : Stepped w ws ls plan s ws' ls' o) where
+module _ {w ws ls : List ℕ} {plan : Plan} {g : Compact} (c : Calm w ws ls plan g) (s : Registers) (e : s ≡ full g) (ws' ls' : List ℕ) (o : Step) (m : Stepped w ws ls plan s ws' ls' o) where
   pub settles : Settles plan o
-  settles = move_settles w ws ls plan g c ws' ls' o (rw e at m)
+  settles = move_settles c ws' ls' o (rw e at m)
 
 -- to a frame that is not promoted
-pub paid_strides : (w ws ls : List ℕ) (plan : Plan) (g : Compact) (v top kind : ℕ) (q : Returning w ws ls plan g v top kind) → kind < 7 → (s : Registers) → s ≡ full g
+pub paid_strides : {w ws ls : List ℕ} {plan : Plan} {g : Compact} {v top kind : ℕ} (q : Returning w ws ls plan g v top kind) → kind < 7 → (s : Registers) → s ≡ full g
     → (ws' ls' : List ℕ) (o : Step) → Stepped w ws ls plan s ws' ls' o → (r : Progress) → r ≡ settled_of plan o → Strides w ws ls plan g ws' ls' r
-paid_strides w ws ls plan g v top kind q low s e ws' ls' o m r u =
+paid_strides {w} {ws} {ls} {plan} {g} {v} {top} {kind} q low s e ws' ls' o m r u =
     let n : Stepped w ws ls plan (full g) ws' ls' o = rw e at m in
-    move_strides w ws ls plan g q.calm ws' ls' o n (paid_rises w ws ls plan (full g) v top kind (returning_returns q refl) low ws' ls' o n) r u
+    move_strides q.calm ws' ls' o n (paid_rises w ws ls plan (full g) v top kind (returning_returns q refl) low ws' ls' o n) r u
 
 -- by the same machine
-pub ticks_strides : (w ws ls : List ℕ) (plan : Plan) (g : Compact) (v top kind : ℕ) (q : Returning w ws ls plan g v top kind) (s : Registers) → s ≡ full g
+pub ticks_strides : {w ws ls : List ℕ} {plan : Plan} {g : Compact} {v top kind : ℕ} (q : Returning w ws ls plan g v top kind) (s : Registers) → s ≡ full g
     → (ws' ls' : List ℕ) (o : Step) → Stepped w ws ls plan s ws' ls' o × Ticks s o → (r : Progress) → r ≡ kept_by g o → Strides w ws ls plan g ws' ls' r
-ticks_strides w ws ls plan g v top kind q s e ws' ls' o m r u =
+ticks_strides {w} {ws} {ls} {plan} {g} {v} {top} {kind} q s e ws' ls' o m r u =
     let t = kept_ticks q.calm.starts.paced e u m.1 in
-    kept_strides w ws ls plan g q.calm ws' ls' o (rw e at m.0) r t.0 t.1 t.2
+    kept_strides q.calm ws' ls' o (rw e at m.0) r t.0 t.1 t.2
 
 -- A VALUE RETURNS
-module _ (w ws ls : List ℕ) (plan : Plan) (g : Compact) (v top kind : ℕ) (q : Returning w ws ls plan g v top kind) where
+module _ {w ws ls : List ℕ} {plan : Plan} {g : Compact} {v top kind : ℕ} (q : Returning w ws ls plan g v top kind) where
   pub returned : Returns w ws ls plan (full g) v top kind
   returned = returning_returns q refl
 
@@ -323,21 +258,19 @@ module _ (w ws ls : List ℕ) (plan : Plan) (g : Compact) (v top kind : ℕ) (q 
   kind_is j e = record { calm = q.calm; is = q.is; depth = q.depth; of_kind = q.of_kind ∙ e }
 
   -- what a move of moves asks for
-  pub asked : (s : Registers) → s ≡ full g → (j : ℕ) → kind ≡ j → Paid plan (full g) → (starts : List ℕ) → starts ≡ starts_of w
-      → (Returns w ws ls plan s v top j) × (Paid plan s) × (starts ≡ starts_of w)
-  asked s e j k p starts a = rw (e, ← k) (returned, p, a)
+  pub asked : (s : Registers) → s ≡ full g → (j : ℕ) → kind ≡ j → Paid plan (full g) → Returns w ws ls plan s v top j × Paid plan s
+  asked s e j k p = rw (e, ← k) (returned, p)
 
-module _ (w ws ls : List ℕ) (plan : Plan) (g : Compact) (v top : ℕ) (q : Returning w ws ls plan g v top 0) where
+module _ {w ws ls : List ℕ} {plan : Plan} {g : Compact} {v top : ℕ} (q : Returning w ws ls plan g v top 0) where
   pub operand : Operand w ws (32 * top)
   operand =
-      let t = returned w ws ls plan g v top 0 q in
+      let t = returned q in
       record { table = t.ready.kept.table; room = room w ws ls plan (full g) v top 0 t; stands = (frame-top w ws ls plan (full g) v top 0 t).stands; tag = frame-tag w ws ls plan (full g) v top 0 t }
 
-  pub rebounds_strides : (r : Progress) (next : Compact) → r ≡ Go next → Rebounds w ws g v top r → Strides w ws ls plan g ws ls (Go next)
-  unfolding Rebounds
-  rebounds_strides r next e j = rebound_strides w ws ls plan g q.calm.starts v top q.is q.depth q.of_kind next (rw e at j)
+  pub rebounds_strides : (r : Option Compact) (next : Compact) → r ≡ Some next → Rebounds w ws g v top r → Strides w ws ls plan g ws ls (Go next)
+  rebounds_strides r next e j = rebound_strides q.calm.starts v top q.is q.depth q.of_kind next (rw e at j)
 
 -- NO FRAME LEFT
-pub done_strides : (w ws ls : List ℕ) (plan : Plan) (g : Compact) → Calm w ws ls plan g → (v : ℕ) → g.control ≡ Ret v → g.depth ≡ 0 → Strides w ws ls plan g ws ls (Value v)
+pub done_strides : {w ws ls : List ℕ} {plan : Plan} {g : Compact} → Calm w ws ls plan g → (v : ℕ) → g.control ≡ Ret v → g.depth ≡ 0 → Strides w ws ls plan g ws ls (Value v)
 unfolding step_of PacedBy Transits
-done_strides w ws ls plan g c v e d = record { strode = one (move_advances w ws ls plan g c ws ls (step.Value v) (stepped_done w ws ls plan (full g) v e d)); paced = tt; transits = tt }
+done_strides {w} {ws} {ls} {plan} {g} c v e d = record { strode = one (move_advances c ws ls (step.Value v) (stepped_done w ws ls plan (full g) v e d)); paced = tt; transits = tt }

@@ -1,12 +1,12 @@
 -- What a stride tells: it is one step of the definition, or several at once. And what the functions under it tell.
-use Rattle.std.specs.Prelude.{ℕ, ◌+◌, ◌*◌, ◌/◌, ◌≤◌, ◌<◌, ◌≡◌, true, false, ◌&&◌, List, length, get_or, take, ltb, leb}
+use Rattle.std.specs.Prelude.{ℕ, ◌+◌, ◌*◌, ◌/◌, ◌≤◌, ◌<◌, ◌≡◌, true, false, ◌&&◌, List, length, get_or, take, ltb, leb, Option, Some, None, Result, Ok, Err}
 use Rattle.schedule.specs.FrameMachine.{return}
 use Rattle.schedule.specs.Algebra.{spans}
 use Rattle.schedule.specs.Machine.{ongoing}
 use Rattle.schedule.specs.Runs.{run}
 use Rattle.schedule.specs.Bounds.{step_by}
 use Rattle.schedule.specs.Stretch.{Leads, Through}
-use Rattle.table.specs.Words.{start_of, tag_at}
+use Rattle.table.specs.Words.{arity_at, start_of, tag_at}
 use Rattle.table.specs.WellFormed.{WellFormed}
 use Rattle.frames.specs.Frames.{frame_kind, pushed, turned}
 use Rattle.language.specs.Language.{Code, left_operand, language}
@@ -23,11 +23,11 @@ use Rattle.compact.specs.declared.Compact.{Compact}
 use Rattle.compact.specs.declared.Progress.{Progress}
 use Rattle.compact.specs.declared.Event.{Event}
 use Rattle.compact.specs.declared.Event.TheVariants.{Fork, Turn, Join}
-use Rattle.compact.specs.declared.Progress.TheVariants.{Go, Free, Paused, Value, Halt}
+use Rattle.compact.specs.declared.Progress.TheVariants.{Go, Free, Paused}
 use Rattle.compact.specs.declared.Pause.{Pause}
 use Rattle.compact.specs.declared.Pause.TheVariants as pause
 use Rattle.compact.specs.Compact.{full, step_of, Paced, PacedBy, Transits, later_of, Small, Roomy}
-use Rattle.operands.specs.Operands.{frames_of}
+use Rattle.operands.specs.Operands.{leaf_at, frames_of}
 
 -- SEVERAL STEPS of the definition, from the state that the words held to the one that they hold
 pub record Many (w ws ls : List ℕ) (plan : Plan) (s : Registers) (ws' ls' : List ℕ) (next : Registers) : Type 0 where
@@ -141,12 +141,9 @@ pub record Jump (w ls : List ℕ) (g : Compact) (seat : Seat) (ls' : List ℕ) (
   pub sixteen : length ls' ≡ 16
 
 -- or nothing comes of it
-unfoldable pub Jumps : (w ls : List ℕ) (g : Compact) (seat : Seat) (ls' : List ℕ) → Progress → Type 0
-Jumps w ls g seat ls' (Go next) = Jump w ls g seat ls' next
-Jumps w ls g seat ls' (Free next event) = ls' ≡ ls
-Jumps w ls g seat ls' (Paused p) = ls' ≡ ls
-Jumps w ls g seat ls' (Value v) = ls' ≡ ls
-Jumps w ls g seat ls' (Halt h) = ls' ≡ ls
+abbrev pub Jumps : (w ls : List ℕ) (g : Compact) (seat : Seat) (ls' : List ℕ) → Option Compact → Type 0
+Jumps w ls g seat ls' (Some next) = Jump w ls g seat ls' next
+Jumps w ls g seat ls' None = ls' ≡ ls
 
 -- AN ARITHMETIC'S FRAME WITH ITS LEFT OPERAND x, which has its value by k transitions and so many frames: the right operand at q is next
 pub record Half (w ws ls : List ℕ) (g : Compact) (seat : Seat) (ws' : List ℕ) (next : Compact) : Type 0 where
@@ -161,10 +158,32 @@ pub record Half (w ws ls : List ℕ) (g : Compact) (seat : Seat) (ws' : List ℕ
   pub words : ws' ≡ turned (pushed ws (32 * g.depth) 1 seat.function seat.node seat.count ls 0) (32 * g.depth) 1 left 0
 
 -- an arithmetic whose left operand is simple: both operands, or its frame with the left one
-pub data Paired (w ws ls : List ℕ) (g : Compact) (seat : Seat) (ws' : List ℕ) (r : Progress) : Type 0 where
-  whole : (next : Compact) → r ≡ Go next → ws' ≡ ws → Jump w ls g seat ls next → Paired w ws ls g seat ws' r
-  half : (next : Compact) → r ≡ Go next → Half w ws ls g seat ws' next → Paired w ws ls g seat ws' r
-  neither : ((next : Compact) → r ≡ Go next → ⊥) → ws' ≡ ws → Paired w ws ls g seat ws' r
+pub data Paired (w ws ls : List ℕ) (g : Compact) (seat : Seat) (ws' : List ℕ) (r : Option Compact) : Type 0 where
+  whole : (next : Compact) → r ≡ Some next → ws' ≡ ws → Jump w ls g seat ls next → Paired w ws ls g seat ws' r
+  half : (next : Compact) → r ≡ Some next → Half w ws ls g seat ws' next → Paired w ws ls g seat ws' r
+  neither : r ≡ None → ws' ≡ ws → Paired w ws ls g seat ws' r
+
+-- WHAT A CALL COMES TO, of the function in the word after `at`: with no arguments it is entered; with some that are simple it jumps
+pub data Calls (w ls : List ℕ) (g : Compact) (seat : Seat) (at : ℕ) (ls' : List ℕ) (r : Option Compact) : Type 0 where
+  alone : arity_at w (get_or w (at + 1) 0) ≡ 0 → ls' ≡ ls → r ≡ Some (later_of g (Eval (get_or w (at + 1) 0) 0 0) g.depth 1) → Calls w ls g seat at ls' r
+  given : 0 < arity_at w (get_or w (at + 1) 0) → Jumps w ls g seat ls' r → Calls w ls g seat at ls' r
+
+-- THE KIND OF THE FRAME that the node at word `at` opens for its first child: an arithmetic, a choose, a let, or a call with arguments
+pub data Opens (w : List ℕ) (at kind : ℕ) : Type 0 where
+  operand : get_or w at 0 ≡ 2 → kind ≡ 0 → Opens w at kind
+  condition : get_or w at 0 ≡ 3 → kind ≡ 2 → Opens w at kind
+  binding : get_or w at 0 ≡ 4 → kind ≡ 3 → Opens w at kind
+  argument : get_or w at 0 ≡ 5 → 0 < arity_at w (get_or w (at + 1) 0) → kind ≡ 4 → Opens w at kind
+
+-- WHAT A NODE COMES TO: it jumps; a call with no arguments is entered; a constant or a local has its value; an arithmetic's frame is written with its
+-- left operand; or a frame is to be opened by a step
+pub data Struck (w ws ls : List ℕ) (g : Compact) (seat : Seat) (at : ℕ) (ws' ls' : List ℕ) (r : Result Compact ℕ) : Type 0 where
+  jumps : (next : Compact) → r ≡ Ok next → ws' ≡ ws → Jump w ls g seat ls' next → Struck w ws ls g seat at ws' ls' r
+  enters : get_or w at 0 ≡ 5 → arity_at w (get_or w (at + 1) 0) ≡ 0 → ws' ≡ ws → ls' ≡ ls → r ≡ Ok (later_of g (Eval (get_or w (at + 1) 0) 0 0) g.depth 1)
+      → Struck w ws ls g seat at ws' ls' r
+  reads : get_or w at 0 < 2 → ws' ≡ ws → ls' ≡ ls → r ≡ Ok (later_of g (Ret (leaf_at w at ls 0)) g.depth 1) → Struck w ws ls g seat at ws' ls' r
+  halves : (next : Compact) → r ≡ Ok next → ls' ≡ ls → get_or w at 0 ≡ 2 → Half w ws ls g seat ws' next → Struck w ws ls g seat at ws' ls' r
+  opens : (kind : ℕ) → r ≡ Err kind → ws' ≡ ws → ls' ≡ ls → Opens w at kind → Struck w ws ls g seat at ws' ls' r
 
 -- its first child has the value x by k transitions
 pub record Led (w ls : List ℕ) (seat : Seat) (x k : ℕ) : Type 0 where
@@ -181,9 +200,6 @@ pub record Rebound (w ws : List ℕ) (g : Compact) (v top : ℕ) (next : Compact
   pub through : Through (language w) (left_operand (code_at ws (32 * top))) v (return value) (more + 1) most
   pub room : Roomy g (more + 1) most
 
-unfoldable pub Rebounds : (w ws : List ℕ) (g : Compact) (v top : ℕ) → Progress → Type 0
-Rebounds w ws g v top (Go next) = Rebound w ws g v top next
-Rebounds w ws g v top (Free next event) = Unit {0}
-Rebounds w ws g v top (Paused p) = Unit {0}
-Rebounds w ws g v top (Value x) = Unit {0}
-Rebounds w ws g v top (Halt h) = Unit {0}
+abbrev pub Rebounds : (w ws : List ℕ) (g : Compact) (v top : ℕ) → Option Compact → Type 0
+Rebounds w ws g v top (Some next) = Rebound w ws g v top next
+Rebounds w ws g v top None = Unit {0}

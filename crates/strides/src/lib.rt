@@ -9,17 +9,26 @@
 
 ghost use Rattle.std.specs.Prelude.{◌≡◌, cond, ◌+◌, ◌*◌, ◌/◌, ◌<◌, ◌≤◌, length, get_or, eqb};
 ghost use Rattle.table.specs.Words.{arity_at};
-ghost use Rattle.table.specs.Read.{starts_of};
 ghost use Rattle.moves.specs.Ready.{Paid, Operand};
 ghost use Rattle.compact.specs.Compact.{full, Small};
 ghost use Rattle.operands.specs.Operands.{cost_at};
-ghost use Rattle.strides.specs.Strides.{Strides, Frees, Awaits, Passes, Ends, Starts, Calm, Tagged, Evaluating, Jumps, Paired, Led, Rebounds, Returning};
+ghost use Rattle.strides.specs.Strides.{Strides, Frees, Awaits, Passes, Ends, Starts, Calm, Tagged, Evaluating, Jumps, Paired, Led, Calls, Struck, Rebounds, Returning};
 
-use arithmetic::Computed;
 use compact::{Compact, Event, Pause, Progress};
 use frames::Seat;
-use moves::{Control, Plan, Step, Stopped};
+use moves::{Control, Job, Plan, Step, Stopped};
 use schedule::Span;
+
+// The tags of the nodes that are no constant and no local.
+const ARITHMETIC: u32 = 2;
+
+const CHOOSE: u32 = 3;
+
+const LET: u32 = 4;
+
+const CALL: u32 = 5;
+
+const BOTH: u32 = 6;
 
 // An arithmetic whose operands are both simple; the left one has the value x.
 fn whole(
@@ -33,27 +42,17 @@ fn whole(
     k: u64,
     right: usize,
     l: u64,
-) -> Progress
+) -> Option<Compact>
     requires { (Tagged words.now locals.now g seat start at 2) × (Led words.now locals.now seat x k) × (right ≡ start + 4 * get_or words.now (at + 2) 0) × (l ≡ cost_at words.now right) × (0 < l) }
     ensures { Jumps words.now locals.now g seat locals.now result }
 {
-    let h = compact::higher(operands::frames_of(k), operands::frames_of(l)) + 1;
-    if compact::fits(g, k + l, 3, h) {
-        match operands::simple(words, right, locals, 0) {
-            Computed::Is(y) => match operands::operate(words[at + 1], x, y) {
-                Computed::Is(v) => Progress::Go(compact::later(
-                    g,
-                    Control::Ret(v),
-                    g.depth,
-                    k + l + 3,
-                )),
-                Computed::Fails(_) => compact::none(),
-            },
-            Computed::Fails(_) => compact::none(),
-        }
-    } else {
-        compact::none()
+    let h = operands::frames_of(k).max(operands::frames_of(l)) + 1;
+    if !compact::fits(g, k + l, 3, h) {
+        return None;
     }
+    let y = operands::simple(words, right, locals, 0).ok()?;
+    let v = operands::operate(words[at + 1], x, y).ok()?;
+    Some(compact::later(g, Control::Ret(v), g.depth, k + l + 3))
 }
 
 // An arithmetic whose left operand is simple, and not the right one: its frame is written with the left operand's value x.
@@ -67,23 +66,21 @@ fn half(
     g: Compact,
     x: u64,
     k: u64,
-) -> Progress
+) -> Option<Compact>
     requires { (Tagged words.now locals.now g seat start at 2) × (Led words.now locals.now seat x k) × (length ws.old / 32 ≤ 4096) × (g.deepest ≤ length ws.old / 32) }
     ensures { Paired words.now ws.old locals.now g seat ws.new result }
 {
     let h = operands::frames_of(k) + 1;
-    if compact::fits(g, k, 2, h) {
-        let depth = g.depth;
-        let f = seat.function;
-        let count = seat.count;
-        let b = frames::WORDS * depth;
-        frames::push(ws, b, moves::RIGHT_OPERAND, seat, locals, Span::none());
-        frames::turn(ws, b, moves::RIGHT_OPERAND, x, Span::none());
-        let control = Control::Eval(f, operands::wide(words[at + 2]), count);
-        Progress::Go(compact::later(g, control, depth + 1, k + 2))
-    } else {
-        compact::none()
+    if !compact::fits(g, k, 2, h) {
+        return None;
     }
+    let f = seat.function;
+    let count = seat.count;
+    let b = frames::WORDS * g.depth;
+    frames::push(ws, b, moves::RIGHT_OPERAND, seat, locals, Span::none());
+    frames::turn(ws, b, moves::RIGHT_OPERAND, x, Span::none());
+    let control = Control::Eval(f, words[at + 2] as usize, count);
+    Some(compact::later(g, control, g.depth + 1, k + 2))
 }
 
 // An arithmetic whose left operand is simple and has the value x.
@@ -97,11 +94,11 @@ fn paired(
     g: Compact,
     x: u64,
     k: u64,
-) -> Progress
+) -> Option<Compact>
     requires { (Tagged words.now locals.now g seat start at 2) × (Led words.now locals.now seat x k) × (length ws.old / 32 ≤ 4096) × (g.deepest ≤ length ws.old / 32) }
     ensures { Paired words.now ws.old locals.now g seat ws.new result }
 {
-    let right = start + 4 * operands::wide(words[at + 2]);
+    let right = start + 4 * words[at + 2] as usize;
     let l = operands::cost(words, right);
     if 0 < l {
         whole(words, start, at, seat, locals, g, x, k, right, l)
@@ -119,30 +116,28 @@ fn pair(
     ws: &mut [u64],
     locals: &[u64],
     g: Compact,
-) -> Progress
+) -> Option<Compact>
     requires { (Tagged words.now locals.now g seat start at 2) × (length ws.old / 32 ≤ 4096) × (g.deepest ≤ length ws.old / 32) }
     ensures { Paired words.now ws.old locals.now g seat ws.new result }
 {
     let k = operands::cost(words, at + 4);
-    if 0 < k {
-        match operands::simple(words, at + 4, locals, 0) {
-            Computed::Is(x) => paired(words, start, at, seat, ws, locals, g, x, k),
-            Computed::Fails(_) => compact::none(),
-        }
-    } else {
-        compact::none()
+    if k == 0 {
+        return None;
     }
+    let x = operands::simple(words, at + 4, locals, 0).ok()?;
+    paired(words, start, at, seat, ws, locals, g, x, k)
 }
 
 // The branch of a choose, by its condition.
+#[tactic(auto, using(std::proofs::lemmas::Bool::Decides::nat_tests))]
 fn branch(words: &[u32], at: usize, x: u64) -> usize
     requires { at + 4 ≤ length words.now }
     ensures { result ≡ cond (eqb x 0) (get_or words.now (at + 3) 0) (get_or words.now (at + 2) 0) }
 {
     if x == 0 {
-        operands::wide(words[at + 3])
+        words[at + 3] as usize
     } else {
-        operands::wide(words[at + 2])
+        words[at + 2] as usize
     }
 }
 
@@ -154,23 +149,17 @@ fn choose(
     seat: Seat,
     locals: &[u64],
     g: Compact,
-) -> Progress
+) -> Option<Compact>
     requires { Tagged words.now locals.now g seat start at 3 }
     ensures { Jumps words.now locals.now g seat locals.now result }
 {
     let k = operands::cost(words, at + 4);
-    let h = operands::frames_of(k) + 1;
-    if compact::fits(g, k, 2, h) {
-        match operands::simple(words, at + 4, locals, 0) {
-            Computed::Is(x) => {
-                let control = Control::Eval(seat.function, branch(words, at, x), seat.count);
-                Progress::Go(compact::later(g, control, g.depth, k + 2))
-            }
-            Computed::Fails(_) => compact::none(),
-        }
-    } else {
-        compact::none()
+    if !compact::fits(g, k, 2, operands::frames_of(k) + 1) {
+        return None;
     }
+    let x = operands::simple(words, at + 4, locals, 0).ok()?;
+    let control = Control::Eval(seat.function, branch(words, at, x), seat.count);
+    Some(compact::later(g, control, g.depth, k + 2))
 }
 
 // A let whose first is simple: the second is evaluated with the value added.
@@ -181,29 +170,19 @@ fn bind(
     seat: Seat,
     locals: &mut [u64],
     g: Compact,
-) -> Progress
+) -> Option<Compact>
     requires { Tagged words.now locals.old g seat start at 4 }
     ensures { Jumps words.now locals.old g seat locals.new result }
 {
     let k = operands::cost(words, at + 4);
-    let h = operands::frames_of(k) + 1;
-    if compact::fits(g, k, 2, h) {
-        match operands::simple(words, at + 4, locals, 0) {
-            Computed::Is(x) => {
-                let count = seat.count;
-                frames::append(locals, count, x);
-                let control = Control::Eval(
-                    seat.function,
-                    operands::wide(words[at + 2]),
-                    count + 1,
-                );
-                Progress::Go(compact::later(g, control, g.depth, k + 2))
-            }
-            Computed::Fails(_) => compact::none(),
-        }
-    } else {
-        compact::none()
+    if !compact::fits(g, k, 2, operands::frames_of(k) + 1) {
+        return None;
     }
+    let x = operands::simple(words, at + 4, locals, 0).ok()?;
+    let count = seat.count;
+    frames::append(locals, count, x);
+    let control = Control::Eval(seat.function, words[at + 2] as usize, count + 1);
+    Some(compact::later(g, control, g.depth, k + 2))
 }
 
 // A call of f with one argument, which is simple.
@@ -215,23 +194,17 @@ fn call_one(
     locals: &mut [u64],
     g: Compact,
     f: usize,
-) -> Progress
+) -> Option<Compact>
     requires { (Tagged words.now locals.old g seat start at 5) × (f ≡ get_or words.now (at + 1) 0) × (arity_at words.now f ≡ 1) }
     ensures { Jumps words.now locals.old g seat locals.new result }
 {
     let k = operands::cost(words, at + 4);
-    let h = operands::frames_of(k) + 1;
-    if compact::fits(g, k, 2, h) {
-        match operands::simple(words, at + 4, locals, 0) {
-            Computed::Is(x) => {
-                frames::append(locals, 0, x);
-                Progress::Go(compact::later(g, Control::Eval(f, 0, 1), g.depth, k + 2))
-            }
-            Computed::Fails(_) => compact::none(),
-        }
-    } else {
-        compact::none()
+    if !compact::fits(g, k, 2, operands::frames_of(k) + 1) {
+        return None;
     }
+    let x = operands::simple(words, at + 4, locals, 0).ok()?;
+    frames::append(locals, 0, x);
+    Some(compact::later(g, Control::Eval(f, 0, 1), g.depth, k + 2))
 }
 
 // A call of f with two arguments, which are simple.
@@ -243,32 +216,26 @@ fn call_two(
     locals: &mut [u64],
     g: Compact,
     f: usize,
-) -> Progress
+) -> Option<Compact>
     requires { (Tagged words.now locals.old g seat start at 5) × (f ≡ get_or words.now (at + 1) 0) × (arity_at words.now f ≡ 2) }
     ensures { Jumps words.now locals.old g seat locals.new result }
 {
-    let two = start + 4 * operands::wide(words[at + 2]);
+    let two = start + 4 * words[at + 2] as usize;
     let k = operands::cost(words, at + 4);
     let l = operands::cost(words, two);
-    let h = compact::higher(operands::frames_of(k), operands::frames_of(l)) + 1;
-    if compact::fits(g, operands::both(k, l), 3, h) {
-        match operands::simple(words, at + 4, locals, 0) {
-            Computed::Is(x) => match operands::simple(words, two, locals, 0) {
-                Computed::Is(y) => {
-                    frames::append(locals, 0, x);
-                    frames::append(locals, 1, y);
-                    Progress::Go(compact::later(g, Control::Eval(f, 0, 2), g.depth, k + l + 3))
-                }
-                Computed::Fails(_) => compact::none(),
-            },
-            Computed::Fails(_) => compact::none(),
-        }
-    } else {
-        compact::none()
+    let h = operands::frames_of(k).max(operands::frames_of(l)) + 1;
+    if !compact::fits(g, operands::both(k, l), 3, h) {
+        return None;
     }
+    let x = operands::simple(words, at + 4, locals, 0).ok()?;
+    let y = operands::simple(words, two, locals, 0).ok()?;
+    frames::append(locals, 0, x);
+    frames::append(locals, 1, y);
+    Some(compact::later(g, Control::Eval(f, 0, 2), g.depth, k + l + 3))
 }
 
 // A call of f with three arguments, which are simple.
+#[tactic(auto, using(operands::proofs::Operands::cost_few))]
 fn call_three(
     words: &[u32],
     start: usize,
@@ -277,46 +244,30 @@ fn call_three(
     locals: &mut [u64],
     g: Compact,
     f: usize,
-) -> Progress
+) -> Option<Compact>
     requires { (Tagged words.now locals.old g seat start at 5) × (f ≡ get_or words.now (at + 1) 0) × (arity_at words.now f ≡ 3) }
     ensures { Jumps words.now locals.old g seat locals.new result }
 {
-    let two = start + 4 * operands::wide(words[at + 2]);
-    let three = start + 4 * operands::wide(words[at + 3]);
+    let two = start + 4 * words[at + 2] as usize;
+    let three = start + 4 * words[at + 3] as usize;
     let k = operands::cost(words, at + 4);
     let l = operands::cost(words, two);
     let m = operands::cost(words, three);
-    let h = compact::higher(
-        operands::frames_of(k),
-        compact::higher(operands::frames_of(l), operands::frames_of(m)),
-    ) + 1;
-    if compact::fits(g, operands::both(operands::both(k, l), m), 4, h) {
-        match operands::simple(words, at + 4, locals, 0) {
-            Computed::Is(x) => match operands::simple(words, two, locals, 0) {
-                Computed::Is(y) => match operands::simple(words, three, locals, 0) {
-                    Computed::Is(z) => {
-                        frames::append(locals, 0, x);
-                        frames::append(locals, 1, y);
-                        frames::append(locals, 2, z);
-                        Progress::Go(compact::later(
-                            g,
-                            Control::Eval(f, 0, 3),
-                            g.depth,
-                            k + l + m + 4,
-                        ))
-                    }
-                    Computed::Fails(_) => compact::none(),
-                },
-                Computed::Fails(_) => compact::none(),
-            },
-            Computed::Fails(_) => compact::none(),
-        }
-    } else {
-        compact::none()
+    let low = operands::frames_of(l).max(operands::frames_of(m));
+    let h = operands::frames_of(k).max(low) + 1;
+    if !compact::fits(g, operands::both(operands::both(k, l), m), 4, h) {
+        return None;
     }
+    let x = operands::simple(words, at + 4, locals, 0).ok()?;
+    let y = operands::simple(words, two, locals, 0).ok()?;
+    let z = operands::simple(words, three, locals, 0).ok()?;
+    frames::append(locals, 0, x);
+    frames::append(locals, 1, y);
+    frames::append(locals, 2, z);
+    Some(compact::later(g, Control::Eval(f, 0, 3), g.depth, k + l + m + 4))
 }
 
-// A call of f, by its number of arguments.
+// A call, by its number of arguments.
 fn call(
     words: &[u32],
     start: usize,
@@ -324,126 +275,43 @@ fn call(
     seat: Seat,
     locals: &mut [u64],
     g: Compact,
-    f: usize,
-    arity: usize,
-) -> Progress
-    requires { (Tagged words.now locals.old g seat start at 5) × (f ≡ get_or words.now (at + 1) 0) × (arity ≡ arity_at words.now f) }
-    ensures { Jumps words.now locals.old g seat locals.new result }
+) -> Option<Compact>
+    requires { Tagged words.now locals.old g seat start at 5 }
+    ensures { Calls words.now locals.old g seat at locals.new result }
 {
-    match arity {
+    let f = words[at + 1] as usize;
+    match table::arity(words, f) {
+        0 => Some(compact::later(g, Control::Eval(f, 0, 0), g.depth, 1)),
         1 => call_one(words, start, at, seat, locals, g, f),
         2 => call_two(words, start, at, seat, locals, g, f),
         3 => call_three(words, start, at, seat, locals, g, f),
-        _ => compact::none(),
+        _ => None,
     }
 }
 
-// Evaluates an arithmetic.
-fn evaluate_arithmetic(
+// What a node leads to at once, by its tag, or else the kind of the frame that it opens by a step.
+fn strike(
     words: &[u32],
     start: usize,
     at: usize,
-    ws: &mut [u64],
-    locals: &[u64],
-    plan: Plan,
-    g: Compact,
     seat: Seat,
-) -> Progress
-    requires { Evaluating words.now ws.old locals.now plan g seat start at 2 }
-    ensures { Strides words.now ws.old locals.now plan g ws.new locals.now result }
-{
-    let step = pair(words, start, at, seat, ws, locals, g);
-    let Progress::Go(next) = step else {
-        return compact::open(ws, locals, plan, g, seat, moves::LEFT_OPERAND);
-    };
-    Progress::Go(next)
-}
-
-// Evaluates a choose.
-fn evaluate_choose(
-    words: &[u32],
-    start: usize,
-    at: usize,
-    ws: &mut [u64],
-    locals: &[u64],
-    plan: Plan,
-    g: Compact,
-    seat: Seat,
-) -> Progress
-    requires { Evaluating words.now ws.old locals.now plan g seat start at 3 }
-    ensures { Strides words.now ws.old locals.now plan g ws.new locals.now result }
-{
-    let step = choose(words, start, at, seat, locals, g);
-    let Progress::Go(next) = step else {
-        return compact::open(ws, locals, plan, g, seat, moves::CONDITION);
-    };
-    Progress::Go(next)
-}
-
-// Evaluates a let.
-fn evaluate_let(
-    words: &[u32],
-    start: usize,
-    at: usize,
     ws: &mut [u64],
     locals: &mut [u64],
-    plan: Plan,
     g: Compact,
-    seat: Seat,
-) -> Progress
-    requires { Evaluating words.now ws.old locals.old plan g seat start at 4 }
-    ensures { Strides words.now ws.old locals.old plan g ws.new locals.new result }
+    tag: u32,
+) -> Result<Compact, u64>
+    requires { (Tagged words.now locals.old g seat start at tag) × (tag < 6) × (length ws.old / 32 ≤ 4096) × (g.deepest ≤ length ws.old / 32) }
+    ensures { Struck words.now ws.old locals.old g seat at ws.new locals.new result }
 {
-    let step = bind(words, start, at, seat, locals, g);
-    let Progress::Go(next) = step else {
-        return compact::open(ws, locals, plan, g, seat, moves::BINDING);
-    };
-    Progress::Go(next)
-}
-
-// Evaluates a call with arguments.
-fn evaluate_arguments(
-    words: &[u32],
-    start: usize,
-    at: usize,
-    ws: &mut [u64],
-    locals: &mut [u64],
-    plan: Plan,
-    g: Compact,
-    seat: Seat,
-    f: usize,
-    arity: usize,
-) -> Progress
-    requires { (Evaluating words.now ws.old locals.old plan g seat start at 5) × (f ≡ get_or words.now (at + 1) 0) × (arity ≡ arity_at words.now f) × (0 < arity) }
-    ensures { Strides words.now ws.old locals.old plan g ws.new locals.new result }
-{
-    let step = call(words, start, at, seat, locals, g, f, arity);
-    let Progress::Go(next) = step else {
-        return compact::open(ws, locals, plan, g, seat, moves::ARGUMENT);
-    };
-    Progress::Go(next)
-}
-
-// Evaluates a call.
-fn evaluate_call(
-    words: &[u32],
-    start: usize,
-    at: usize,
-    ws: &mut [u64],
-    locals: &mut [u64],
-    plan: Plan,
-    g: Compact,
-    seat: Seat,
-) -> Progress
-    requires { Evaluating words.now ws.old locals.old plan g seat start at 5 }
-    ensures { Strides words.now ws.old locals.old plan g ws.new locals.new result }
-{
-    let f = operands::wide(words[at + 1]);
-    let arity = table::arity(words, f);
-    if arity == 0 {
-        Progress::Go(compact::later(g, Control::Eval(f, 0, 0), g.depth, 1))
-    } else {
-        evaluate_arguments(words, start, at, ws, locals, plan, g, seat, f, arity)
+    match tag {
+        ARITHMETIC => pair(words, start, at, seat, ws, locals, g).ok_or(moves::LEFT_OPERAND),
+        CHOOSE => choose(words, start, at, seat, locals, g).ok_or(moves::CONDITION),
+        LET => bind(words, start, at, seat, locals, g).ok_or(moves::BINDING),
+        CALL => call(words, start, at, seat, locals, g).ok_or(moves::ARGUMENT),
+        _ => {
+            let v = operands::leaf(words, at, locals, 0);
+            Ok(compact::later(g, Control::Ret(v), g.depth, 1))
+        }
     }
 }
 
@@ -462,89 +330,58 @@ fn evaluate_both(
     ensures { Passes words.now ws.old locals.now plan g ws.new locals.now result }
 {
     if plan.birth {
-        Progress::Paused(Pause::Fork(seat))
-    } else {
-        let step = moves::evaluate_both(ws, locals, plan, compact::expand(g), seat);
-        compact::settle(plan, step)
+        return Progress::Paused(Pause::Fork(seat));
     }
-}
-
-// Evaluates a constant or a local.
-fn evaluate_leaf(
-    words: &[u32],
-    start: usize,
-    at: usize,
-    ws: &[u64],
-    locals: &[u64],
-    plan: Plan,
-    g: Compact,
-    seat: Seat,
-    tag: u32,
-) -> Progress
-    requires { (Evaluating words.now ws.now locals.now plan g seat start at tag) × (tag < 2) }
-    ensures { Strides words.now ws.now locals.now plan g ws.now locals.now result }
-{
-    let v = operands::leaf(words, at, locals, 0);
-    Progress::Go(compact::later(g, Control::Ret(v), g.depth, 1))
+    let step = moves::evaluate_both(ws, locals, plan, compact::expand(g), seat);
+    compact::settle(plan, step)
 }
 
 // Evaluates a node.
 fn evaluate(
-    words: &[u32],
-    starts: &[usize],
+    job: Job,
     ws: &mut [u64],
     locals: &mut [u64],
     plan: Plan,
     g: Compact,
     seat: Seat,
 ) -> Progress
-    requires { (Calm words.now ws.old locals.old plan g) × (g.control ≡ Control.Eval seat.function seat.node seat.count) × (starts.now ≡ starts_of words.now) × (Paid plan (full g)) }
-    ensures { Passes words.now ws.old locals.old plan g ws.new locals.new result }
+    requires { (Calm job.words.now ws.old locals.old plan g) × (g.control ≡ Control.Eval seat.function seat.node seat.count) × (Paid plan (full g)) }
+    ensures { Passes job.entry.words.now ws.old locals.old plan g ws.new locals.new result }
 {
-    let f = seat.function;
-    let start = starts[f];
+    let start = job.start(seat.function);
     let at = start + 4 * seat.node;
-    let tag = words[at];
-    match tag {
-        2 => evaluate_arithmetic(words, start, at, ws, locals, plan, g, seat),
-        3 => evaluate_choose(words, start, at, ws, locals, plan, g, seat),
-        4 => evaluate_let(words, start, at, ws, locals, plan, g, seat),
-        5 => evaluate_call(words, start, at, ws, locals, plan, g, seat),
-        6 => evaluate_both(words, start, at, ws, locals, plan, g, seat),
-        _ => evaluate_leaf(words, start, at, ws, locals, plan, g, seat, tag),
+    let tag = job.words[at];
+    if tag == BOTH {
+        return evaluate_both(job.words, start, at, ws, locals, plan, g, seat);
+    }
+    match strike(job.words, start, at, seat, ws, locals, g, tag) {
+        Ok(next) => Progress::Go(next),
+        Err(kind) => compact::open(ws, locals, plan, g, seat, kind),
     }
 }
 
 // A value that returns to an arithmetic frame whose right operand is simple.
-fn rebound(words: &[u32], starts: &[usize], ws: &[u64], g: Compact, v: u64, top: usize) -> Progress
-    requires { (Operand words.now ws.now (32 * top)) × (Small g) × (g.depth ≡ top + 1) × (starts.now ≡ starts_of words.now) }
-    ensures { Rebounds words.now ws.now g v top result }
+fn rebound(job: Job, ws: &[u64], g: Compact, v: u64, top: usize) -> Option<Compact>
+    requires { (Operand job.words.now ws.now (32 * top)) × (Small g) × (g.depth ≡ top + 1) }
+    ensures { Rebounds job.entry.words.now ws.now g v top result }
 {
     let b = frames::WORDS * top;
     let seat = frames::seat_of(ws, b);
-    let f = seat.function;
-    let start = starts[f];
+    let start = job.start(seat.function);
     let at = start + 4 * seat.node;
-    let right = start + 4 * operands::wide(words[at + 2]);
-    let k = operands::cost(words, right);
-    let h = operands::frames_of(k);
-    if compact::fits(g, k, 2, h) {
-        match operands::simple(words, right, ws, b + frames::LOCALS) {
-            Computed::Is(y) => match operands::operate(words[at + 1], v, y) {
-                Computed::Is(z) => Progress::Go(compact::later(g, Control::Ret(z), top, k + 2)),
-                Computed::Fails(_) => compact::none(),
-            },
-            Computed::Fails(_) => compact::none(),
-        }
-    } else {
-        compact::none()
+    let right = start + 4 * job.words[at + 2] as usize;
+    let k = operands::cost(job.words, right);
+    if !compact::fits(g, k, 2, operands::frames_of(k)) {
+        return None;
     }
+    let y = operands::simple(job.words, right, ws, b + frames::LOCALS).ok()?;
+    let z = operands::operate(job.words[at + 1], v, y).ok()?;
+    Some(compact::later(g, Control::Ret(z), top, k + 2))
 }
 
 // A left operand.
 fn ret_left(
-    words: &[u32],
-    starts: &[usize],
+    job: Job,
     ws: &mut [u64],
     locals: &mut [u64],
     plan: Plan,
@@ -552,30 +389,19 @@ fn ret_left(
     v: u64,
     top: usize,
 ) -> Progress
-    requires { (Returning words.now ws.old locals.old plan g v top 0) × (Paid plan (full g)) × (starts.now ≡ starts_of words.now) }
-    ensures { Strides words.now ws.old locals.old plan g ws.new locals.new result }
+    requires { (Returning job.words.now ws.old locals.old plan g v top 0) × (Paid plan (full g)) }
+    ensures { Strides job.entry.words.now ws.old locals.old plan g ws.new locals.new result }
 {
-    let step = rebound(words, starts, ws, g, v, top);
-    let Progress::Go(next) = step else {
-        let single = moves::ret_left_operand(
-            words,
-            starts,
-            ws,
-            locals,
-            plan,
-            compact::expand(g),
-            v,
-            top,
-        );
-        return compact::keep(g, single);
-    };
-    Progress::Go(next)
+    if let Some(next) = rebound(job, ws, g, v, top) {
+        return Progress::Go(next);
+    }
+    let step = moves::ret_left_operand(job, ws, locals, plan, compact::expand(g), v, top);
+    compact::keep(g, step)
 }
 
 // A value returns by a transition, to a frame that is not promoted.
 fn ret_paid(
-    words: &[u32],
-    starts: &[usize],
+    job: Job,
     ws: &mut [u64],
     locals: &mut [u64],
     plan: Plan,
@@ -584,100 +410,67 @@ fn ret_paid(
     top: usize,
     kind: u64,
 ) -> Progress
-    requires { (Returning words.now ws.old locals.old plan g v top kind) × (kind < 7) × (Paid plan (full g)) × (starts.now ≡ starts_of words.now) }
-    ensures { Strides words.now ws.old locals.old plan g ws.new locals.new result }
+    requires { (Returning job.words.now ws.old locals.old plan g v top kind) × (kind < 7) × (Paid plan (full g)) }
+    ensures { Strides job.entry.words.now ws.old locals.old plan g ws.new locals.new result }
 {
     let s = compact::expand(g);
     match kind {
-        0 => ret_left(words, starts, ws, locals, plan, g, v, top),
-        1 => compact::keep(
+        moves::LEFT_OPERAND => ret_left(job, ws, locals, plan, g, v, top),
+        moves::RIGHT_OPERAND => compact::keep(
             g,
-            moves::ret_right_operand(words, starts, ws, locals, plan, s, v, top),
+            moves::ret_right_operand(job, ws, locals, plan, s, v, top),
         ),
-        2 => compact::keep(
+        moves::CONDITION => compact::keep(
             g,
-            moves::ret_condition(words, starts, ws, locals, plan, s, v, top),
+            moves::ret_condition(job, ws, locals, plan, s, v, top),
         ),
-        3 => compact::keep(
-            g,
-            moves::ret_binding(words, starts, ws, locals, plan, s, v, top),
-        ),
-        4 => compact::keep(
-            g,
-            moves::ret_argument(words, starts, ws, locals, plan, s, v, top),
-        ),
-        5 => compact::settle(
+        moves::BINDING => compact::keep(g, moves::ret_binding(job, ws, locals, plan, s, v, top)),
+        moves::ARGUMENT => compact::keep(g, moves::ret_argument(job, ws, locals, plan, s, v, top)),
+        moves::PLAIN_LEFT => compact::settle(
             plan,
-            moves::ret_plain_left(words, starts, ws, locals, plan, s, v, top),
+            moves::ret_plain_left(job, ws, locals, plan, s, v, top),
         ),
-        _ => compact::keep(
-            g,
-            moves::ret_plain_right(words, starts, ws, locals, plan, s, v, top),
-        ),
+        _ => compact::keep(g, moves::ret_plain_right(job, ws, locals, plan, s, v, top)),
     }
 }
 
 // A value returns to the newest frame, or ends the run. At a promoted fork it arrives with no transition.
-fn ret(
-    words: &[u32],
-    starts: &[usize],
-    ws: &mut [u64],
-    locals: &mut [u64],
-    plan: Plan,
-    g: Compact,
-    v: u64,
-) -> Progress
-    requires { (Calm words.now ws.old locals.old plan g) × (g.control ≡ Control.Ret v) × (starts.now ≡ starts_of words.now) × (Paid plan (full g)) }
-    ensures { Passes words.now ws.old locals.old plan g ws.new locals.new result }
+fn ret(job: Job, ws: &mut [u64], locals: &mut [u64], plan: Plan, g: Compact, v: u64) -> Progress
+    requires { (Calm job.words.now ws.old locals.old plan g) × (g.control ≡ Control.Ret v) × (Paid plan (full g)) }
+    ensures { Passes job.entry.words.now ws.old locals.old plan g ws.new locals.new result }
 {
-    let depth = g.depth;
-    if depth == 0 {
-        Progress::Value(v)
+    if g.depth == 0 {
+        return Progress::Value(v);
+    }
+    let top = g.depth - 1;
+    let kind = moves::kind_at(ws, top);
+    if kind < moves::PROMOTED_LEFT {
+        ret_paid(job, ws, locals, plan, g, v, top, kind)
+    } else if kind == moves::PROMOTED_LEFT {
+        Progress::Paused(Pause::Turn(v, top))
     } else {
-        let top = depth - 1;
-        let kind = moves::kind_at(ws, top);
-        if kind < moves::PROMOTED_LEFT {
-            ret_paid(words, starts, ws, locals, plan, g, v, top, kind)
-        } else if kind == moves::PROMOTED_LEFT {
-            Progress::Paused(Pause::Turn(v, top))
-        } else {
-            Progress::Paused(Pause::Join(v, top, kind))
-        }
+        Progress::Paused(Pause::Join(v, top, kind))
     }
 }
 
 // One step that is a transition, or several at once; a pause where the limit is reached or the next move is free.
-pub fn stride(
-    words: &[u32],
-    starts: &[usize],
-    ws: &mut [u64],
-    locals: &mut [u64],
-    plan: Plan,
-    g: Compact,
-) -> Progress
-    requires { (Starts words.now ws.old locals.old plan g) × (starts.now ≡ starts_of words.now) }
-    ensures { Passes words.now ws.old locals.old plan g ws.new locals.new result }
+pub fn stride(job: Job, ws: &mut [u64], locals: &mut [u64], plan: Plan, g: Compact) -> Progress
+    requires { Starts job.words.now ws.old locals.old plan g }
+    ensures { Passes job.entry.words.now ws.old locals.old plan g ws.new locals.new result }
 {
     if g.limit <= g.transitions {
-        Progress::Paused(Pause::Limit)
-    } else {
-        let control = g.control;
-        match control {
-            Control::Eval(function, node, count) => evaluate(
-                words,
-                starts,
-                ws,
-                locals,
-                plan,
-                g,
-                Seat {
-                    function,
-                    node,
-                    count,
-                },
-            ),
-            Control::Ret(v) => ret(words, starts, ws, locals, plan, g, v),
+        return Progress::Paused(Pause::Limit);
+    }
+    match g.control {
+        Control::Eval(function, node, count) => {
+            let seat = Seat {
+                function,
+                node,
+                count,
+            };
+            evaluate(job, ws, locals, plan, g, seat)
         }
+        Control::Ret(v) => ret(job, ws, locals, plan, g, v),
     }
 }
 
@@ -729,8 +522,7 @@ pub fn crowded(
 
 // A left value arrives at a promoted fork.
 pub fn turn(
-    words: &[u32],
-    starts: &[usize],
+    job: Job,
     ws: &mut [u64],
     locals: &mut [u64],
     plan: Plan,
@@ -738,18 +530,17 @@ pub fn turn(
     v: u64,
     top: usize,
 ) -> Progress
-    requires { (Awaits words.now ws.old locals.old plan g (Pause.Turn v top)) × (starts.now ≡ starts_of words.now) }
-    ensures { Frees words.now ws.old locals.old plan g (Event.Turn top) ws.new locals.new result }
+    requires { Awaits job.words.now ws.old locals.old plan g (Pause.Turn v top) }
+    ensures { Frees job.entry.words.now ws.old locals.old plan g (Event.Turn top) ws.new locals.new result }
 {
-    let step = moves::turned(words, starts, ws, locals, plan, compact::expand(g), v, top);
+    let step = moves::turned(job, ws, locals, plan, compact::expand(g), v, top);
     let next = compact::restart(plan, step);
     compact::free(next, Event::Turn(top))
 }
 
 // A right value arrives there.
 pub fn join(
-    words: &[u32],
-    starts: &[usize],
+    job: Job,
     ws: &[u64],
     locals: &mut [u64],
     plan: Plan,
@@ -758,20 +549,10 @@ pub fn join(
     top: usize,
     kind: u64,
 ) -> Progress
-    requires { (Awaits words.now ws.now locals.old plan g (Pause.Join v top kind)) × (starts.now ≡ starts_of words.now) }
-    ensures { Frees words.now ws.now locals.old plan g (Event.Join top) ws.now locals.new result }
+    requires { Awaits job.words.now ws.now locals.old plan g (Pause.Join v top kind) }
+    ensures { Frees job.entry.words.now ws.now locals.old plan g (Event.Join top) ws.now locals.new result }
 {
-    let step = moves::joined(
-        words,
-        starts,
-        ws,
-        locals,
-        plan,
-        compact::expand(g),
-        v,
-        top,
-        kind,
-    );
+    let step = moves::joined(job, ws, locals, plan, compact::expand(g), v, top, kind);
     let next = compact::restart(plan, step);
     compact::free(next, Event::Join(top))
 }
@@ -788,27 +569,14 @@ fn spent(seat: Seat) -> Progress
 }
 
 // A node is evaluated with the fuel spent: only a fork that is promoted at its birth can go on.
-fn spent_node(
-    words: &[u32],
-    starts: &[usize],
-    ws: &[u64],
-    locals: &[u64],
-    plan: Plan,
-    g: Compact,
-    seat: Seat,
-) -> Progress
-    requires { (Calm words.now ws.now locals.now plan g) × (g.control ≡ Control.Eval seat.function seat.node seat.count) × (starts.now ≡ starts_of words.now) × (plan.fuel.0 ≤ g.transitions) }
-    ensures { Ends words.now ws.now locals.now plan g result }
+fn spent_node(job: Job, ws: &[u64], locals: &[u64], plan: Plan, g: Compact, seat: Seat) -> Progress
+    requires { (Calm job.words.now ws.now locals.now plan g) × (g.control ≡ Control.Eval seat.function seat.node seat.count) × (plan.fuel.0 ≤ g.transitions) }
+    ensures { Ends job.entry.words.now ws.now locals.now plan g result }
 {
-    let f = seat.function;
-    let start = starts[f];
-    let tag = words[start + 4 * seat.node];
-    if tag == 6 {
-        if plan.birth {
-            Progress::Paused(Pause::Fork(seat))
-        } else {
-            spent(seat)
-        }
+    let start = job.start(seat.function);
+    let tag = job.words[start + 4 * seat.node];
+    if tag == BOTH && plan.birth {
+        Progress::Paused(Pause::Fork(seat))
     } else {
         spent(seat)
     }
@@ -826,51 +594,37 @@ fn spent_value(
     requires { (Calm words.now ws.now locals.now plan g) × (g.control ≡ Control.Ret v) × (plan.fuel.0 ≤ g.transitions) }
     ensures { Ends words.now ws.now locals.now plan g result }
 {
-    let depth = g.depth;
-    if depth == 0 {
+    if g.depth == 0 {
         return Progress::Value(v);
     }
-    let top = depth - 1;
+    let top = g.depth - 1;
     let kind = moves::kind_at(ws, top);
     if kind < moves::PROMOTED_LEFT {
-        return spent(frames::seat_of(ws, frames::WORDS * top));
+        spent(frames::seat_of(ws, frames::WORDS * top))
+    } else if kind == moves::PROMOTED_LEFT {
+        Progress::Paused(Pause::Turn(v, top))
+    } else {
+        Progress::Paused(Pause::Join(v, top, kind))
     }
-    if kind == moves::PROMOTED_LEFT {
-        return Progress::Paused(Pause::Turn(v, top));
-    }
-    Progress::Paused(Pause::Join(v, top, kind))
 }
 
 // At the limit: a promotion that is due, or what comes where the fuel is spent.
-pub fn at_limit(
-    words: &[u32],
-    starts: &[usize],
-    ws: &[u64],
-    locals: &[u64],
-    plan: Plan,
-    g: Compact,
-) -> Progress
-    requires { (Starts words.now ws.now locals.now plan g) × (starts.now ≡ starts_of words.now) × (g.limit ≤ g.transitions) }
-    ensures { Ends words.now ws.now locals.now plan g result }
+pub fn at_limit(job: Job, ws: &[u64], locals: &[u64], plan: Plan, g: Compact) -> Progress
+    requires { (Starts job.words.now ws.now locals.now plan g) × (g.limit ≤ g.transitions) }
+    ensures { Ends job.entry.words.now ws.now locals.now plan g result }
 {
     if compact::due(plan, g) {
         return Progress::Paused(Pause::Promotion);
     }
-    let control = g.control;
-    match control {
-        Control::Eval(function, node, count) => spent_node(
-            words,
-            starts,
-            ws,
-            locals,
-            plan,
-            g,
-            Seat {
+    match g.control {
+        Control::Eval(function, node, count) => {
+            let seat = Seat {
                 function,
                 node,
                 count,
-            },
-        ),
-        Control::Ret(v) => spent_value(words, ws, locals, plan, g, v),
+            };
+            spent_node(job, ws, locals, plan, g, seat)
+        }
+        Control::Ret(v) => spent_value(job.words, ws, locals, plan, g, v),
     }
 }

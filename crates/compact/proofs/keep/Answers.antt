@@ -1,15 +1,10 @@
--- `compact::keep` meets its contract.
-use Rattle.compact.specs.Compact.{kept_by}
+-- `compact::keep` meets its contract, by the laws of Keeping.
+use Rattle.std.proofs.Common.{rules}
+use Rattle.compact.proofs.Keeping.{goes_with, answered}
 use Rattle.compact.proofs.keep.Goals as goal
 
-pub returns-in-Go : goal.returns-in-Go
-unfolding kept_by
-returns-in-Go c = rw c.in-Go.is
+pub answer-requires : goal.answer-requires
+answer-requires c = goes_with (λ s e. tt)
 
-pub returns-in-Value : goal.returns-in-Value
-unfolding kept_by
-returns-in-Value c = rw c.in-Value.is
-
-pub returns-in-Halt : goal.returns-in-Halt
-unfolding kept_by
-returns-in-Halt c = rw c.in-Halt.is
+pub returns : goal.returns
+returns c = answered c.answer.ensures (λ s g e p. search rules)

@@ -1,23 +1,14 @@
--- `compact::restart` meets its contract.
-use Rattle.compact.specs.Compact.{settled_of, limit_of, Settles, Forkless}
+-- `compact::restart` meets its contract, by the laws of Keeping.
+use mathlib.Core.Path.{◌≡◌}
+use Rattle.std.proofs.Common.{rules}
+use Rattle.compact.specs.Compact.{limited_of, limit_of, Settles, Forkless}
+use Rattle.compact.proofs.Keeping.{goes_with, answered}
 use Rattle.compact.proofs.restart.Goals as goal
 
-pub overflow_sub-since : goal.overflow_sub-since
+pub answer-requires : goal.answer-requires
 unfolding Settles
-overflow_sub-since c = let x = rw c.in-Go.is at c.requires.0 in x.0
+answer-requires c = goes_with (λ s e. let h = rw e at c.requires.0 in search rules)
 
-pub overflow_sub-before : goal.overflow_sub-before
-unfolding Settles
-overflow_sub-before c = let x = rw c.in-Go.is at c.requires.0 in x.2
-
-pub returns-in-Go : goal.returns-in-Go
-unfolding settled_of limit_of Forkless
-returns-in-Go c = let e = c.in-Go.is in let none = rw e at c.requires.1 in rw (e, none)
-
-pub returns-in-Value : goal.returns-in-Value
-unfolding settled_of
-returns-in-Value c = rw c.in-Value.is
-
-pub returns-in-Halt : goal.returns-in-Halt
-unfolding settled_of
-returns-in-Halt c = rw c.in-Halt.is
+pub returns : goal.returns
+unfolding limit_of Forkless
+returns c = answered c.answer.ensures (λ s g e p. let none = rw e at c.requires.1 in let made : g ≡ limited_of s c.args.plan.fuel.0 = search rules in rw (made, none))

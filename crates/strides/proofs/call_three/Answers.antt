@@ -1,142 +1,37 @@
 -- `strides::call_three` meets its contract, by the laws of Calls.
-use Prim.Native.Nat.{◌+◌, ◌*◌, ◌<◌}
-use mathlib.Core.Path.{refl}
 use native.Mathlib.Omega.{arith}
-use lib.ListN.{length-set}
-use Rattle.table.specs.Words.{arity_at}
-use Rattle.strides.specs.Strides.{Jumps}
-use Rattle.operands.proofs.Operands.{cost_few, frames_few}
-use Rattle.strides.proofs.Forms.{here_inside}
-use Rattle.strides.proofs.Calls.{both_some, both_few, first_cost, second_cost, third_cost, first_simple, second_simple, third_simple, jump_three}
+use Rattle.strides.proofs.Forms.{ok_is}
+use Rattle.strides.proofs.Calls.{both_some, first_cost, second_cost, third_cost, first_simple, second_simple, third_simple, jump_three}
 use Rattle.strides.proofs.call_three.Goals as goal
-
-pub overflow_add-at : goal.overflow_add-at
-overflow_add-at c = omega (arith, here_inside _ _ _ _ _ _ c.requires.0.site)
-
-pub offset_bounds-words-at : goal.offset_bounds-words-at
-offset_bounds-words-at c = omega (arith, here_inside _ _ _ _ _ _ c.requires.0.site)
-
-pub bounds-words-at : goal.bounds-words-at
-bounds-words-at c = omega (arith, here_inside _ _ _ _ _ _ c.requires.0.site)
-
-pub overflow_mul-two : goal.overflow_mul-two
-overflow_mul-two c =
-    let l : 1 < arity_at c.args.words.now c.args.f = omega arith in
-    omega (arith, (second_cost c.requires.0 c.requires.1 l c.wide.ensures).inside)
-
-pub overflow_add-two : goal.overflow_add-two
-overflow_add-two c =
-    let l : 1 < arity_at c.args.words.now c.args.f = omega arith in
-    omega (arith, (second_cost c.requires.0 c.requires.1 l c.wide.ensures).inside)
-
-pub overflow_add-at-2 : goal.overflow_add-at-2
-overflow_add-at-2 c = omega (arith, here_inside _ _ _ _ _ _ c.requires.0.site)
-
-pub offset_bounds-words-at-2 : goal.offset_bounds-words-at-2
-offset_bounds-words-at-2 c = omega (arith, here_inside _ _ _ _ _ _ c.requires.0.site)
-
-pub bounds-words-at-2 : goal.bounds-words-at-2
-bounds-words-at-2 c = omega (arith, here_inside _ _ _ _ _ _ c.requires.0.site)
-
-pub overflow_mul-three : goal.overflow_mul-three
-overflow_mul-three c =
-    let l : 2 < arity_at c.args.words.now c.args.f = omega arith in
-    omega (arith, (third_cost c.requires.0 c.requires.1 l c.wide-2.ensures).inside)
-
-pub overflow_add-three : goal.overflow_add-three
-overflow_add-three c =
-    let l : 2 < arity_at c.args.words.now c.args.f = omega arith in
-    omega (arith, (third_cost c.requires.0 c.requires.1 l c.wide-2.ensures).inside)
-
-pub overflow_add-at-3 : goal.overflow_add-at-3
-overflow_add-at-3 c = omega (arith, here_inside _ _ _ _ _ _ c.requires.0.site)
 
 pub cost-k-requires : goal.cost-k-requires
 cost-k-requires c = first_cost c.requires.0 c.requires.1 (omega arith)
 
 pub cost-l-requires : goal.cost-l-requires
-cost-l-requires c = second_cost c.requires.0 c.requires.1 (omega arith) c.wide.ensures
+cost-l-requires c = second_cost c.requires.0 c.requires.1 (omega arith)
 
 pub cost-m-requires : goal.cost-m-requires
-cost-m-requires c = third_cost c.requires.0 c.requires.1 (omega arith) c.wide-2.ensures
-
-pub overflow_add-h : goal.overflow_add-h
-overflow_add-h c =
-    omega (arith, c.frames_of.ensures, c.frames_of-2.ensures, c.frames_of-3.ensures, c.higher.ensures, c.higher-h.ensures, frames_few c.cost-k.result, frames_few c.cost-l.result, frames_few c.cost-m.result)
-
-pub both-requires : goal.both-requires
-both-requires c =
-    omega (arith, c.cost-k.ensures, c.cost-l.ensures, c.cost-m.ensures, cost_few c.args.words.now (c.args.at + 4), cost_few c.args.words.now (c.args.start + 4 * c.wide.result), cost_few c.args.words.now (c.args.start + 4 * c.wide-2.result))
-
-pub both-requires-2 : goal.both-requires-2
-both-requires-2 c =
-    omega (arith, c.both.ensures, both_few c.cost-k.result c.cost-l.result, c.cost-k.ensures, c.cost-l.ensures, c.cost-m.ensures, cost_few c.args.words.now (c.args.at + 4), cost_few c.args.words.now (c.args.start + 4 * c.wide.result), cost_few c.args.words.now (c.args.start + 4 * c.wide-2.result))
-
-pub fits-requires : goal.fits-requires
-fits-requires c =
-    (c.requires.0.site.small, omega (arith, c.both.ensures, c.both-2.ensures, both_few c.cost-k.result c.cost-l.result, both_few c.both.result c.cost-m.result, c.cost-k.ensures, c.cost-l.ensures, c.cost-m.ensures, cost_few c.args.words.now (c.args.at + 4), cost_few c.args.words.now (c.args.start + 4 * c.wide.result), cost_few c.args.words.now (c.args.start + 4 * c.wide-2.result)), omega arith, omega (arith, c.frames_of.ensures, c.frames_of-2.ensures, c.frames_of-3.ensures, c.higher.ensures, c.higher-h.ensures, frames_few c.cost-k.result, frames_few c.cost-l.result, frames_few c.cost-m.result))
-
-pub overflow_add-at-then-fits : goal.overflow_add-at-then-fits
-overflow_add-at-then-fits c = omega (arith, here_inside _ _ _ _ _ _ c.requires.0.site)
+cost-m-requires c = third_cost c.requires.0 c.requires.1 (omega arith)
 
 pub simple-requires : goal.simple-requires
 simple-requires c =
-    let some = both_some _ c.both.result c.cost-m.result c.both-2.ensures (c.fits.ensures c.if-fits.true).0 in
-    first_simple c.requires.0 c.requires.1 (omega arith) c.cost-k.ensures (both_some _ c.cost-k.result c.cost-l.result c.both.ensures some.0).0
+    let last = both_some _ c.both.result c.cost-m.result c.both-2.ensures (c.fits.ensures c.if-not-fits.false).0 in
+    first_simple c.requires.0 c.requires.1 (omega arith) c.cost-k.ensures (both_some _ c.cost-k.result c.cost-l.result c.both.ensures last.0).0
 
-pub simple-requires-in-Is : goal.simple-requires-in-Is
-simple-requires-in-Is c =
-    let some = both_some _ c.both.result c.cost-m.result c.both-2.ensures (c.fits.ensures c.if-fits.true).0 in
-    second_simple c.requires.0 c.requires.1 (omega arith) c.wide.ensures c.cost-l.ensures (both_some _ c.cost-k.result c.cost-l.result c.both.ensures some.0).1
+pub simple-requires-2 : goal.simple-requires-2
+simple-requires-2 c =
+    let last = both_some _ c.both.result c.cost-m.result c.both-2.ensures (c.fits.ensures c.if-not-fits.false).0 in
+    second_simple c.requires.0 c.requires.1 (omega arith) c.cost-l.ensures (both_some _ c.cost-k.result c.cost-l.result c.both.ensures last.0).1
 
-pub simple-requires-in-Is-simple : goal.simple-requires-in-Is-simple
-simple-requires-in-Is-simple c =
-    let some = both_some _ c.both.result c.cost-m.result c.both-2.ensures (c.fits.ensures c.if-fits.true).0 in
-    third_simple c.requires.0 c.requires.1 (omega arith) c.wide-2.ensures c.cost-m.ensures some.1
+pub simple-requires-3 : goal.simple-requires-3
+simple-requires-3 c =
+    let last = both_some _ c.both.result c.cost-m.result c.both-2.ensures (c.fits.ensures c.if-not-fits.false).0 in
+    third_simple c.requires.0 c.requires.1 (omega arith) c.cost-m.ensures last.1
 
-pub append-requires : goal.append-requires
-append-requires c = (omega arith, c.requires.0.site.sixteen)
-
-pub append-requires-in-Is-simple-2 : goal.append-requires-in-Is-simple-2
-append-requires-in-Is-simple-2 c = (omega arith, rw c.append.ensures (simp length-set c.requires.0.site.sixteen))
-
-pub append-requires-in-Is-simple-2-2 : goal.append-requires-in-Is-simple-2-2
-append-requires-in-Is-simple-2-2 c =
-    (omega arith, rw c.append-in-Is-simple-2.ensures (simp length-set (rw c.append.ensures (simp length-set c.requires.0.site.sixteen))))
-
-pub overflow_add-k : goal.overflow_add-k
-overflow_add-k c =
-    omega (arith, c.cost-k.ensures, c.cost-l.ensures, c.cost-m.ensures, cost_few c.args.words.now (c.args.at + 4), cost_few c.args.words.now (c.args.start + 4 * c.wide.result), cost_few c.args.words.now (c.args.start + 4 * c.wide-2.result))
-
-pub overflow_add-k-in-Is-simple-2 : goal.overflow_add-k-in-Is-simple-2
-overflow_add-k-in-Is-simple-2 c =
-    omega (arith, c.cost-k.ensures, c.cost-l.ensures, c.cost-m.ensures, cost_few c.args.words.now (c.args.at + 4), cost_few c.args.words.now (c.args.start + 4 * c.wide.result), cost_few c.args.words.now (c.args.start + 4 * c.wide-2.result))
-
-pub overflow_add-k-in-Is-simple-2-2 : goal.overflow_add-k-in-Is-simple-2-2
-overflow_add-k-in-Is-simple-2-2 c =
-    omega (arith, c.cost-k.ensures, c.cost-l.ensures, c.cost-m.ensures, cost_few c.args.words.now (c.args.at + 4), cost_few c.args.words.now (c.args.start + 4 * c.wide.result), cost_few c.args.words.now (c.args.start + 4 * c.wide-2.result))
-
-pub later-requires : goal.later-requires
-later-requires c =
-    (c.requires.0.site.small, omega (arith, c.cost-k.ensures, c.cost-l.ensures, c.cost-m.ensures, cost_few c.args.words.now (c.args.at + 4), cost_few c.args.words.now (c.args.start + 4 * c.wide.result), cost_few c.args.words.now (c.args.start + 4 * c.wide-2.result)))
-
-pub returns-in-Is-simple-2 : goal.returns-in-Is-simple-2
-unfolding Jumps
-returns-in-Is-simple-2 c =
-    jump_three c.requires.0 c.requires.1 c.cost-k.ensures c.simple.ensures c.in-Is.is c.wide.ensures c.cost-l.ensures c.simple-in-Is.ensures c.in-Is-simple.is c.wide-2.ensures c.cost-m.ensures c.simple-in-Is-simple.ensures c.in-Is-simple-2.is c.requires.2 c.frames_of.ensures c.frames_of-2.ensures c.frames_of-3.ensures c.higher.ensures c.higher-h.ensures c.both.ensures c.both-2.ensures (c.fits.ensures c.if-fits.true) c.append.ensures c.append-in-Is-simple-2.ensures c.append-in-Is-simple-2-2.ensures c.later.ensures
-
-pub returns-in-Fails-simple-2 : goal.returns-in-Fails-simple-2
-unfolding Jumps
-returns-in-Fails-simple-2 c = rw c.none.ensures refl
-
-pub returns-in-Fails-simple : goal.returns-in-Fails-simple
-unfolding Jumps
-returns-in-Fails-simple c = rw c.none-in-Fails-simple.ensures refl
-
-pub returns-in-Fails : goal.returns-in-Fails
-unfolding Jumps
-returns-in-Fails c = rw c.none-in-Fails.ensures refl
-
-pub returns-else-fits : goal.returns-else-fits
-unfolding Jumps
-returns-else-fits c = rw c.none-else-fits.ensures refl
+pub returns : goal.returns
+returns c =
+    jump_three c.requires.0 c.requires.1 c.cost-k.ensures (ok_is c.simple.ensures c.ok.ensures.value c.in_ok-x.was)
+    c.cost-l.ensures (ok_is c.simple-2.ensures c.ok-2.ensures.value c.in_ok-y.was)
+    c.cost-m.ensures (ok_is c.simple-3.ensures c.ok-3.ensures.value c.in_ok-z.was) c.requires.2
+    c.frames_of-3.ensures c.frames_of.ensures c.frames_of-2.ensures c.max-low.ensures c.max-h.ensures
+    c.both.ensures c.both-2.ensures (c.fits.ensures c.if-not-fits.false) c.append.ensures c.append-2.ensures c.append-3.ensures c.later.ensures

@@ -10,15 +10,15 @@ evaluate_both-step-requires c = rw c.expand.ensures (site_framed c.requires, c.r
 pub settle-requires : goal.settle-requires
 settle-requires c =
     let u = rw c.expand.ensures at c.evaluate_both-step.ensures in
-    move_settles c.args.words.now c.args.ws.now c.args.locals.now c.args.plan c.args.g c.requires.calm _ _ _ (both_stepped c.requires refl _ c.evaluate_both-step.auto.ws u)
+    move_settles c.requires.calm _ _ _ (both_stepped c.requires refl _ c.evaluate_both-step.auto.ws u)
 
 pub returns-then-plan : goal.returns-then-plan
 unfolding Awaits
 returns-then-plan c =
     pauses _ refl refl refl (c.requires.calm, c.requires.is, site_tag c.requires, c.if-plan.true)
 
-pub returns-else-plan : goal.returns-else-plan
-returns-else-plan c =
+pub returns : goal.returns
+returns c =
     let u = rw c.expand.ensures at c.evaluate_both-step.ensures in
-    made (move_strides c.args.words.now c.args.ws.now c.args.locals.now c.args.plan c.args.g c.requires.calm _ _ _ (both_stepped c.requires refl _ c.evaluate_both-step.auto.ws u)
+    made (move_strides c.requires.calm _ _ _ (both_stepped c.requires refl _ c.evaluate_both-step.auto.ws u)
     (both_rises c.requires c.if-plan.false u) _ c.settle.ensures)

@@ -6,7 +6,7 @@ use Rattle.strides.proofs.fork.Goals as goal
 
 pub expand-requires : goal.expand-requires
 expand-requires c =
-    expands c.args.words.now c.args.ws.now c.args.locals.now c.args.plan c.args.g (fork_calm c.args.words.now c.args.ws.now c.args.locals.now c.args.plan c.args.g c.args.seat c.requires.0).starts
+    expands (fork_calm c.args.words.now c.args.ws.now c.args.locals.now c.args.plan c.args.g c.args.seat c.requires.0).starts
 
 pub fork-step-requires : goal.fork-step-requires
 fork-step-requires c =

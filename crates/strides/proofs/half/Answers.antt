@@ -1,6 +1,8 @@
 -- `strides::half` meets its contract, by the laws of Forms.
+use mathlib.Core.Path.{refl}
 use native.Mathlib.Omega.{arith}
-use Rattle.strides.proofs.Forms.{within, one_frame, half_paired, none_paired}
+use Rattle.strides.specs.Strides.{neither}
+use Rattle.strides.proofs.Forms.{within, one_frame, half_paired}
 use Rattle.strides.proofs.half.Goals as goal
 
 pub overflow_add-h : goal.overflow_add-h
@@ -11,18 +13,18 @@ fits-requires c =
     (c.requires.0.site.small, omega (arith, c.requires.1.few), omega arith, omega (arith, one_frame _ c.args.k c.frames_of-h.ensures))
 
 pub overflow_mul-b : goal.overflow_mul-b
-overflow_mul-b c = omega (arith, (c.fits.ensures c.if-fits.true).1.within)
+overflow_mul-b c = omega (arith, (c.fits.ensures c.if-not-fits.false).1.within)
 
 pub push-requires : goal.push-requires
 push-requires c =
     let p = c.requires.0.site in
-    (omega (arith, (c.fits.ensures c.if-fits.true).1.within), p.stands.few, p.sixteen)
+    (omega (arith, (c.fits.ensures c.if-not-fits.false).1.within), p.stands.few, p.sixteen)
 
 pub turn-requires : goal.turn-requires
-turn-requires c = omega (arith, (c.fits.ensures c.if-fits.true).1.within)
+turn-requires c = omega (arith, (c.fits.ensures c.if-not-fits.false).1.within)
 
-pub overflow_add-at : goal.overflow_add-at
-overflow_add-at c = omega (arith, within c.requires.0.site)
+pub overflow_add-control : goal.overflow_add-control
+overflow_add-control c = omega (arith, within c.requires.0.site)
 
 pub offset_bounds-words-at : goal.offset_bounds-words-at
 offset_bounds-words-at c = omega (arith, within c.requires.0.site)
@@ -33,11 +35,11 @@ bounds-words-at c = omega (arith, within c.requires.0.site)
 pub later-requires : goal.later-requires
 later-requires c = (c.requires.0.site.small, omega (arith, c.requires.1.few))
 
-pub returns-then-fits : goal.returns-then-fits
-returns-then-fits c =
+pub returns : goal.returns
+returns c =
     let p = c.requires in
-    half_paired p.0 _ _ _ _ _ _ _ _ p.1 c.frames_of-h.ensures (c.fits.ensures c.if-fits.true).1 c.wide.ensures
-    (rw c.none.ensures at c.push.ensures) (rw c.none-then-fits.ensures at c.turn.ensures) c.later.ensures
+    half_paired p.0 _ _ _ _ _ _ _ _ p.1 c.frames_of-h.ensures (c.fits.ensures c.if-not-fits.false).1 refl
+    (rw c.none.ensures at c.push.ensures) (rw c.none-2.ensures at c.turn.ensures) c.later.ensures
 
-pub returns-else-fits : goal.returns-else-fits
-returns-else-fits c = none_paired _ _ _ _ _ _ c.none-else-fits.ensures
+pub returns-then-not-fits : goal.returns-then-not-fits
+returns-then-not-fits c = neither refl refl

@@ -10,18 +10,18 @@ use Rattle.strides.proofs.join.Goals as goal
 pub expand-requires : goal.expand-requires
 unfolding Awaits
 expand-requires c =
-    expands c.args.words.now c.args.ws.now c.args.locals.now c.args.plan c.args.g c.requires.0.0.calm.starts
+    expands c.requires.0.calm.starts
 
 pub joined-step-requires : goal.joined-step-requires
 unfolding Awaits
-joined-step-requires c = (returning_returns c.requires.0.0 c.expand.ensures, c.requires.0.1, c.requires.1)
+joined-step-requires c = (returning_returns c.requires.0 c.expand.ensures, c.requires.1)
 
 pub restart-next-requires : goal.restart-next-requires
 unfolding Awaits
 restart-next-requires c =
-    arrival_restarts c.args.words.now c.args.ws.now c.args.locals.now c.args.plan c.args.g c.args.v c.args.top c.args.kind c.requires.0.0 (omega (arith, c.requires.0.1)) _ c.expand.ensures _ _ _ c.joined-step.ensures
+    arrival_restarts c.requires.0 (omega (arith, c.requires.1)) _ c.expand.ensures _ _ _ c.joined-step.ensures
 
 pub returns : goal.returns
 unfolding Awaits
 returns c =
-    arrival_frees c.args.words.now c.args.ws.now c.args.locals.now c.args.plan c.args.g c.args.v c.args.top c.args.kind c.requires.0.0 (omega (arith, c.requires.0.1)) _ c.expand.ensures _ _ _ c.joined-step.ensures _ (join_occurs c.requires.0.0 (omega (arith, c.requires.0.1)) (λ e. omega (arith, c.requires.0.1))) _ (c.free.ensures ∙ ap (freed_by _) c.restart-next.ensures)
+    arrival_frees c.requires.0 (omega (arith, c.requires.1)) _ c.expand.ensures _ _ _ c.joined-step.ensures _ (join_occurs c.requires.0 (omega (arith, c.requires.1)) (λ e. omega (arith, c.requires.1))) _ (c.free.ensures ∙ ap (freed_by _) c.restart-next.ensures)

@@ -15,13 +15,13 @@ pub settle-next-requires : goal.settle-next-requires
 unfolding Awaits
 settle-next-requires c =
     let u = rw c.expand.ensures at c.promote-s.ensures in
-    step_settles c.args.words.now c.args.ws.now c.args.locals.now c.args.plan c.args.g c.requires.0 _ _ _
+    step_settles c.requires.0 _ _ _
     (advanced_promote c.args.words.now c.args.ws.now c.args.locals.now c.args.plan (full c.args.g) c.requires.0.ready _ (sym c.requires.1) refl _ c.promote-s.auto.ws _ u)
 
 pub returns : goal.returns
 unfolding Awaits
 returns c =
     let u = rw c.expand.ensures at c.promote-s.ensures in
-    step_frees c.args.words.now c.args.ws.now c.args.locals.now c.args.plan c.args.g c.requires.0 _ _ _ _
+    step_frees c.requires.0 _ _ _ _
     (advanced_promote c.args.words.now c.args.ws.now c.args.locals.now c.args.plan (full c.args.g) c.requires.0.ready _ (sym c.requires.1) refl _ c.promote-s.auto.ws _ u)
     _ refl (promote_occurs c.args.words.now c.args.ws.now c.args.locals.now c.args.plan c.args.g c.requires.1 _) _ (c.free.ensures ∙ ap (freed_by _) c.settle-next.ensures)

@@ -7,11 +7,11 @@ use Rattle.strides.proofs.ret.Goals as goal
 
 pub ret_paid-requires : goal.ret_paid-requires
 ret_paid-requires c =
-    (record { calm = c.requires.0; is = c.requires.1; depth = omega arith; of_kind = sym c.kind_at-kind.ensures }, c.if-kind-lt-PROMOTED_LEFT.true, c.requires.3, c.requires.2)
+    (record { calm = c.requires.0; is = c.requires.1; depth = omega arith; of_kind = sym c.kind_at-kind.ensures }, c.if-kind-lt-PROMOTED_LEFT.true, c.requires.2)
 
-pub returns-then-depth-eq0 : goal.returns-then-depth-eq0
-returns-then-depth-eq0 c =
-    made (done_strides c.args.words.now c.args.ws.now c.args.locals.now c.args.plan c.args.g c.requires.0 _ c.requires.1 c.if-depth-eq0.true)
+pub returns-then-g-eq0 : goal.returns-then-g-eq0
+returns-then-g-eq0 c =
+    made (done_strides c.requires.0 _ c.requires.1 c.if-g-eq0.true)
 
 pub returns-then-kind-lt-PROMOTED_LEFT : goal.returns-then-kind-lt-PROMOTED_LEFT
 returns-then-kind-lt-PROMOTED_LEFT c = made c.ret_paid.ensures

@@ -4,18 +4,18 @@ use Rattle.strides.proofs.Striding.{ticks_strides, asked, operand, rebounds_stri
 use Rattle.strides.proofs.Settling.{small}
 use Rattle.strides.proofs.ret_left.Goals as goal
 
-pub rebound-step-requires : goal.rebound-step-requires
-rebound-step-requires c =
-    (operand c.args.words.now c.args.ws.now c.args.locals.now c.args.plan c.args.g c.args.v c.args.top c.requires.0, small c.args.words.now c.args.ws.now c.args.locals.now c.args.plan c.args.g c.requires.0.calm.starts, c.requires.0.depth, c.requires.2)
+pub rebound-requires : goal.rebound-requires
+rebound-requires c =
+    (operand c.requires.0, small c.requires.0.calm.starts, c.requires.0.depth)
 
-pub ret_left_operand-single-requires : goal.ret_left_operand-single-requires
-ret_left_operand-single-requires c =
-    asked c.args.words.now c.args.ws.now c.args.locals.now c.args.plan c.args.g c.args.v c.args.top 0 c.requires.0 _ c.expand.ensures 0 refl c.requires.1 _ c.requires.2
-
-pub returns-in_default : goal.returns-in_default
-returns-in_default c =
-    ticks_strides c.args.words.now c.args.ws.now c.args.locals.now c.args.plan c.args.g c.args.v c.args.top 0 c.requires.0 _ c.expand.ensures _ _ _ c.ret_left_operand-single.ensures _ c.keep.ensures
+pub ret_left_operand-step-requires : goal.ret_left_operand-step-requires
+ret_left_operand-step-requires c =
+    asked c.requires.0 _ c.expand.ensures 0 refl c.requires.1
 
 pub returns : goal.returns
 returns c =
-    rebounds_strides c.args.words.now c.args.ws.now c.args.locals.now c.args.plan c.args.g c.args.v c.args.top c.requires.0 _ _ c.in-Go.is c.rebound-step.ensures
+    ticks_strides c.requires.0 _ c.expand.ensures _ _ _ c.ret_left_operand-step.ensures _ c.keep.ensures
+
+pub returns-in-Some : goal.returns-in-Some
+returns-in-Some c =
+    rebounds_strides c.requires.0 _ _ c.in-Some.is c.rebound.ensures

@@ -6,20 +6,20 @@ use Rattle.strides.specs.Strides.{Awaits}
 use Rattle.strides.proofs.Pausing.{pause_ends, value_ends, value_spent}
 use Rattle.strides.proofs.spent_value.Goals as goal
 
-pub returns-then-depth-eq0 : goal.returns-then-depth-eq0
-returns-then-depth-eq0 c =
-    value_ends c.args.words.now c.args.ws.now c.args.locals.now c.args.plan c.args.g c.requires.0 _ c.requires.1 c.if-depth-eq0.true
+pub returns-then-g-eq0 : goal.returns-then-g-eq0
+returns-then-g-eq0 c =
+    value_ends c.requires.0 c.requires.1 c.if-g-eq0.true
 
 pub returns-then-kind-lt-PROMOTED_LEFT : goal.returns-then-kind-lt-PROMOTED_LEFT
 returns-then-kind-lt-PROMOTED_LEFT c =
-    value_spent c.args.words.now c.args.ws.now c.args.locals.now c.args.plan c.args.g c.requires.0 c.requires.2 _ c.args.v _ _ (record { calm = c.requires.0; is = c.requires.1; depth = omega arith; of_kind = sym c.kind_at-kind.ensures }) c.if-kind-lt-PROMOTED_LEFT.true c.seat_of.ensures _ c.spent.ensures
+    value_spent c.requires.0 c.requires.2 (record { calm = c.requires.0; is = c.requires.1; depth = omega arith; of_kind = sym c.kind_at-kind.ensures }) c.if-kind-lt-PROMOTED_LEFT.true c.seat_of.ensures _ c.spent.ensures
 
 pub returns-then-kind-eq-PROMOTED_LEFT : goal.returns-then-kind-eq-PROMOTED_LEFT
 unfolding Awaits
 returns-then-kind-eq-PROMOTED_LEFT c =
-    pause_ends c.args.words.now c.args.ws.now c.args.locals.now c.args.plan c.args.g _ (λ e. let no : ◌≡◌ {A = ℕ} 0 1 = cc in omega arith) (record { calm = c.requires.0; is = c.requires.1; depth = omega arith; of_kind = sym c.kind_at-kind.ensures ∙ c.if-kind-eq-PROMOTED_LEFT.true })
+    pause_ends _ (λ e. cc) (record { calm = c.requires.0; is = c.requires.1; depth = omega arith; of_kind = sym c.kind_at-kind.ensures ∙ c.if-kind-eq-PROMOTED_LEFT.true })
 
-pub returns : goal.returns
+pub returns-else-kind-eq-PROMOTED_LEFT : goal.returns-else-kind-eq-PROMOTED_LEFT
 unfolding Awaits
-returns c =
-    pause_ends c.args.words.now c.args.ws.now c.args.locals.now c.args.plan c.args.g _ (λ e. let no : ◌≡◌ {A = ℕ} 0 1 = cc in omega arith) (record { calm = c.requires.0; is = c.requires.1; depth = omega arith; of_kind = sym c.kind_at-kind.ensures }, omega (arith, c.if-kind-eq-PROMOTED_LEFT.false, c.if-kind-lt-PROMOTED_LEFT.false))
+returns-else-kind-eq-PROMOTED_LEFT c =
+    pause_ends _ (λ e. cc) (record { calm = c.requires.0; is = c.requires.1; depth = omega arith; of_kind = sym c.kind_at-kind.ensures }, omega (arith, c.if-kind-eq-PROMOTED_LEFT.false, c.if-kind-lt-PROMOTED_LEFT.false))

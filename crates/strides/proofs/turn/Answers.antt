@@ -10,18 +10,18 @@ use Rattle.strides.proofs.turn.Goals as goal
 pub expand-requires : goal.expand-requires
 unfolding Awaits
 expand-requires c =
-    expands c.args.words.now c.args.ws.now c.args.locals.now c.args.plan c.args.g c.requires.0.calm.starts
+    expands c.requires.calm.starts
 
 pub turned-step-requires : goal.turned-step-requires
 unfolding Awaits
-turned-step-requires c = (returning_returns c.requires.0 c.expand.ensures, c.requires.1)
+turned-step-requires c = returning_returns c.requires c.expand.ensures
 
 pub restart-next-requires : goal.restart-next-requires
 unfolding Awaits
 restart-next-requires c =
-    arrival_restarts c.args.words.now c.args.ws.now c.args.locals.now c.args.plan c.args.g c.args.v c.args.top 7 c.requires.0 (omega arith) _ c.expand.ensures _ _ _ c.turned-step.ensures
+    arrival_restarts c.requires (omega arith) _ c.expand.ensures _ _ _ c.turned-step.ensures
 
 pub returns : goal.returns
 unfolding Awaits
 returns c =
-    arrival_frees c.args.words.now c.args.ws.now c.args.locals.now c.args.plan c.args.g c.args.v c.args.top 7 c.requires.0 (omega arith) _ c.expand.ensures _ _ _ c.turned-step.ensures _ (turn_occurs c.requires.0 refl) _ (c.free.ensures ∙ ap (freed_by _) c.restart-next.ensures)
+    arrival_frees c.requires (omega arith) _ c.expand.ensures _ _ _ c.turned-step.ensures _ (turn_occurs c.requires refl) _ (c.free.ensures ∙ ap (freed_by _) c.restart-next.ensures)

@@ -1,9 +1,0 @@
--- `strides::branch` meets its contract.
-use borrow.Author.Tests.{eq-eqb, ne_eqb}
-use Rattle.strides.proofs.branch.Goals as goal
-
-pub returns-then-x-eq0 : goal.returns-then-x-eq0
-returns-then-x-eq0 c = rw (eq-eqb _ _ c.if-x-eq0.true) c.wide.ensures
-
-pub returns-else-x-eq0 : goal.returns-else-x-eq0
-returns-else-x-eq0 c = rw (ne_eqb _ _ c.if-x-eq0.false) c.wide-else-x-eq0.ensures
