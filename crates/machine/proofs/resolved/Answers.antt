@@ -14,7 +14,7 @@ returns-in_default-pause c =
 
 pub at_limit-requires : goal.at_limit-requires
 at_limit-requires c =
-    let e = c.in-Paused.is ∙ ap Paused c.in-Limit.is in ((c.requires.0 e).0, c.requires.1, (c.requires.0 e).1)
+    let e = c.in-Paused.is ∙ ap Paused c.in-Limit.is in ((c.requires e).0, (c.requires e).1)
 
 pub returns : goal.returns
 returns c = at_limit (c.in-Paused.is ∙ ap Paused c.in-Limit.is) c.at_limit.ensures
