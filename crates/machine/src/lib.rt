@@ -255,7 +255,7 @@ fn free(
         Pause::Promotion => promoted(job.words, ws, locals, graph, plan, g, n),
         Pause::Fork(seat) => forked(job.words, ws, locals, graph, plan, g, n, seat),
         Pause::Turn(v, top) => turned(job, ws, locals, graph, plan, g, n, v, top),
-        Pause::Join(v, top, kind) => { joined(job, ws, locals, graph, plan, g, n, v, top, kind) }
+        Pause::Join(v, top, kind) => joined(job, ws, locals, graph, plan, g, n, v, top, kind),
         Pause::Limit => Moved {
             step: Progress::Paused(pause),
             words: n,
@@ -272,16 +272,13 @@ fn resolved(
     g: Compact,
     step: Progress,
 ) -> Progress
-    requires { (step ≡ Progress.Paused Pause.Limit → (Starts job.words.now ws.now locals.now plan g) × (g.limit ≤ g.transitions)) }
+    requires { step ≡ Progress.Paused Pause.Limit → (Starts job.words.now ws.now locals.now plan g) × (g.limit ≤ g.transitions) }
     ensures { Resolved job.entry.words.now ws.now locals.now plan g step result }
 {
-    let Progress::Paused(pause) = step else {
-        return step;
-    };
-    let Pause::Limit = pause else {
-        return step;
-    };
-    strides::at_limit(job, ws, locals, plan, g)
+    match step {
+        Progress::Paused(Pause::Limit) => strides::at_limit(job, ws, locals, plan, g),
+        _ => step,
+    }
 }
 
 // Moves from a run's start to its end. n is the number of words of its graph so far.
