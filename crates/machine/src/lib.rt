@@ -11,7 +11,6 @@
 #![tactic(auto)]
 
 ghost use Rattle.std.specs.Prelude.{◌≡◌, ◌+◌, ◌*◌, ◌/◌, ◌≤◌, ◌<◌, ◌^◌, length, take};
-ghost use Rattle.table.specs.Read.{starts_of};
 ghost use Rattle.language.specs.Answers.{counts_of, stopped, answer_of};
 ghost use Rattle.language.specs.Stops.{StopListed};
 ghost use Rattle.compact.specs.Compact.{full, step_of, compact_of};
@@ -30,7 +29,7 @@ use compact::{Compact, Event, Pause, Progress};
 use frames::Seat;
 use graph_answers::Graphed;
 use language::{Answer, Counts, Settings, Stop};
-use moves::{Control, Plan, Registers};
+use moves::{Control, Job, Plan, Registers};
 use schedule::{Span, Work};
 
 // The period of a machine that never promotes: above any fuel.
@@ -158,20 +157,13 @@ fn finish(graph: &mut [u32], plan: Plan, g: Compact, n: usize, step: Progress) -
 }
 
 // Strides, until one makes no transition: the run ends there, or a pause is made.
-fn onward(
-    words: &[u32],
-    starts: &[usize],
-    ws: &mut [u64],
-    locals: &mut [u64],
-    plan: Plan,
-    from: Compact,
-) -> Reached
-    requires { (Starts words.now ws.old locals.old plan from) × (starts.now ≡ starts_of words.now) }
-    ensures { Onward words.now ws.old locals.old plan from ws.new locals.new result }
+fn onward(job: Job, ws: &mut [u64], locals: &mut [u64], plan: Plan, from: Compact) -> Reached
+    requires { Starts job.words.now ws.old locals.old plan from }
+    ensures { Onward job.entry.words.now ws.old locals.old plan from ws.new locals.new result }
 {
     let mut g = from;
     loop {
-        let step = strides::stride(words, starts, ws, locals, plan, g);
+        let step = strides::stride(job, ws, locals, plan, g);
         let Progress::Go(next) = step else {
             return Reached { registers: g, step };
         };
@@ -225,8 +217,7 @@ fn forked(
 
 // A left value's arrival at a promoted fork.
 fn turned(
-    words: &[u32],
-    starts: &[usize],
+    job: Job,
     ws: &mut [u64],
     locals: &mut [u64],
     graph: &mut [u32],
@@ -236,18 +227,17 @@ fn turned(
     v: u64,
     top: usize,
 ) -> Moved
-    requires { (Starts words.now ws.old locals.old plan g) × (Awaits words.now ws.old locals.old plan g (Pause.Turn v top)) × (starts.now ≡ starts_of words.now) × (MarkableAt ws.old graph.old g n (Event.Turn top)) }
-    ensures { Moves words.now ws.old locals.old graph.old plan g n (Event.Turn top) ws.new locals.new graph.new result }
+    requires { (Starts job.words.now ws.old locals.old plan g) × (Awaits job.words.now ws.old locals.old plan g (Pause.Turn v top)) × (MarkableAt ws.old graph.old g n (Event.Turn top)) }
+    ensures { Moves job.entry.words.now ws.old locals.old graph.old plan g n (Event.Turn top) ws.new locals.new graph.new result }
 {
     let more = marks::turn(ws, graph, n, g.transitions - g.since, top);
-    let step = strides::turn(words, starts, ws, locals, plan, g, v, top);
+    let step = strides::turn(job, ws, locals, plan, g, v, top);
     Moved { step, words: more }
 }
 
 // A right value's arrival there.
 fn joined(
-    words: &[u32],
-    starts: &[usize],
+    job: Job,
     ws: &mut [u64],
     locals: &mut [u64],
     graph: &mut [u32],
@@ -258,18 +248,17 @@ fn joined(
     top: usize,
     kind: u64,
 ) -> Moved
-    requires { (Starts words.now ws.old locals.old plan g) × (Awaits words.now ws.old locals.old plan g (Pause.Join v top kind)) × (starts.now ≡ starts_of words.now) × (MarkableAt ws.old graph.old g n (Event.Join top)) }
-    ensures { Moves words.now ws.old locals.old graph.old plan g n (Event.Join top) ws.new locals.new graph.new result }
+    requires { (Starts job.words.now ws.old locals.old plan g) × (Awaits job.words.now ws.old locals.old plan g (Pause.Join v top kind)) × (MarkableAt ws.old graph.old g n (Event.Join top)) }
+    ensures { Moves job.entry.words.now ws.old locals.old graph.old plan g n (Event.Join top) ws.new locals.new graph.new result }
 {
     let more = marks::join(ws, graph, n, g.transitions - g.since, top);
-    let step = strides::join(words, starts, ws, locals, plan, g, v, top, kind);
+    let step = strides::join(job, ws, locals, plan, g, v, top, kind);
     Moved { step, words: more }
 }
 
 // The free move that a pause awaits.
 fn free(
-    words: &[u32],
-    starts: &[usize],
+    job: Job,
     ws: &mut [u64],
     locals: &mut [u64],
     graph: &mut [u32],
@@ -278,16 +267,14 @@ fn free(
     n: usize,
     pause: Pause,
 ) -> Moved
-    requires { (Starts words.now ws.old locals.old plan g) × (Awaits words.now ws.old locals.old plan g pause) × (pause ≡ Pause.Limit → ⊥) × (starts.now ≡ starts_of words.now) × (Fits ws.old g pause → MarkableAt ws.old graph.old g n (event_of g pause)) }
-    ensures { Moves words.now ws.old locals.old graph.old plan g n (event_of g pause) ws.new locals.new graph.new result }
+    requires { (Starts job.words.now ws.old locals.old plan g) × (Awaits job.words.now ws.old locals.old plan g pause) × (pause ≡ Pause.Limit → ⊥) × (Fits ws.old g pause → MarkableAt ws.old graph.old g n (event_of g pause)) }
+    ensures { Moves job.entry.words.now ws.old locals.old graph.old plan g n (event_of g pause) ws.new locals.new graph.new result }
 {
     match pause {
-        Pause::Promotion => promoted(words, ws, locals, graph, plan, g, n),
-        Pause::Fork(seat) => forked(words, ws, locals, graph, plan, g, n, seat),
-        Pause::Turn(v, top) => turned(words, starts, ws, locals, graph, plan, g, n, v, top),
-        Pause::Join(v, top, kind) => {
-            joined(words, starts, ws, locals, graph, plan, g, n, v, top, kind)
-        }
+        Pause::Promotion => promoted(job.words, ws, locals, graph, plan, g, n),
+        Pause::Fork(seat) => forked(job.words, ws, locals, graph, plan, g, n, seat),
+        Pause::Turn(v, top) => turned(job, ws, locals, graph, plan, g, n, v, top),
+        Pause::Join(v, top, kind) => joined(job, ws, locals, graph, plan, g, n, v, top, kind),
         Pause::Limit => Moved {
             step: Progress::Paused(pause),
             words: n,
@@ -297,50 +284,45 @@ fn free(
 
 // A step by strides, and at the limit what comes then.
 fn resolved(
-    words: &[u32],
-    starts: &[usize],
+    job: Job,
     ws: &[u64],
     locals: &[u64],
     plan: Plan,
     g: Compact,
     step: Progress,
 ) -> Progress
-    requires { (step ≡ Progress.Paused Pause.Limit → (Starts words.now ws.now locals.now plan g) × (g.limit ≤ g.transitions)) × (starts.now ≡ starts_of words.now) }
-    ensures { Resolved words.now ws.now locals.now plan g step result }
+    requires { step ≡ Progress.Paused Pause.Limit → (Starts job.words.now ws.now locals.now plan g) × (g.limit ≤ g.transitions) }
+    ensures { Resolved job.entry.words.now ws.now locals.now plan g step result }
 {
-    let Progress::Paused(pause) = step else {
-        return step;
-    };
-    let Pause::Limit = pause else {
-        return step;
-    };
-    strides::at_limit(words, starts, ws, locals, plan, g)
+    match step {
+        Progress::Paused(Pause::Limit) => strides::at_limit(job, ws, locals, plan, g),
+        _ => step,
+    }
 }
 
 // Moves from a run's start to its end. n is the number of words of its graph so far.
 fn drive(
-    words: &[u32],
-    starts: &[usize],
+    job: Job,
     ws: &mut [u64],
     locals: &mut [u64],
     graph: &mut [u32],
     plan: Plan,
     count: usize,
 ) -> Graphed
-    requires { (Begins words.now ws.old locals.old plan count) × (starts.now ≡ starts_of words.now) }
-    ensures { (Ran words.now (take count locals.old) (length ws.old) plan result.answer) × (Wrote words.now (take count locals.old) (length ws.old) plan graph.old result.words graph.new) }
+    requires { Begins job.words.now ws.old locals.old plan count }
+    ensures { (Ran job.entry.words.now (take count locals.old) (length ws.old) plan result.answer) × (Wrote job.entry.words.now (take count locals.old) (length ws.old) plan graph.old result.words graph.new) }
 {
     let mut from = begin(plan, count);
     let mut n: usize = 0;
     loop {
-        let reached = onward(words, starts, ws, locals, plan, from);
+        let reached = onward(job, ws, locals, plan, from);
         let g = reached.registers;
         let first = reached.step;
-        let step = resolved(words, starts, ws, locals, plan, g, first);
+        let step = resolved(job, ws, locals, plan, g, first);
         let Progress::Paused(pause) = step else {
             return finish(graph, plan, g, n, step);
         };
-        let moved = free(words, starts, ws, locals, graph, plan, g, n, pause);
+        let moved = free(job, ws, locals, graph, plan, g, n, pause);
         let end = moved.step;
         n = moved.words;
         let Progress::Free(next, _) = end else {
@@ -352,20 +334,19 @@ fn drive(
 
 // Runs an accepted input by a plan, with the sixteen words of its locals lent, and leaves zeros in the workspace.
 fn run(
-    words: &[u32],
-    starts: &[usize],
+    job: Job,
     arguments: &[u64],
     ws: &mut [u64],
     locals: &mut [u64],
     graph: &mut [u32],
     plan: Plan,
 ) -> Graphed
-    requires { (Accepted words.now arguments.now ws.old plan) × (starts.now ≡ starts_of words.now) × (length locals.old ≡ 16) }
-    ensures { (Ran words.now arguments.now (length ws.old) plan result.answer) × (ws.new ≡ left_by result.answer ws.old) × (Wrote words.now arguments.now (length ws.old) plan graph.old result.words graph.new) }
+    requires { (Accepted job.words.now arguments.now ws.old plan) × (length locals.old ≡ 16) }
+    ensures { (Ran job.entry.words.now arguments.now (length ws.old) plan result.answer) × (ws.new ≡ left_by result.answer ws.old) × (Wrote job.entry.words.now arguments.now (length ws.old) plan graph.old result.words graph.new) }
 {
     let count = arguments.len();
     frames::copy(locals, 0, arguments, 0, count);
-    let ran = drive(words, starts, ws, locals, graph, plan, count);
+    let ran = drive(job, ws, locals, graph, plan, count);
     frames::clear(ws);
     ran
 }
@@ -382,8 +363,12 @@ fn launch(
     ensures { (Ran words.now arguments.now (length ws.old) plan result.answer) × (ws.new ≡ left_by result.answer ws.old) × (Wrote words.now arguments.now (length ws.old) plan graph.old result.words graph.new) }
 {
     let starts = table::starts(words);
+    let job = Job {
+        words,
+        starts: &starts,
+    };
     let mut locals = [0u64; 16];
-    run(words, &starts, arguments, ws, &mut locals, graph, plan)
+    run(job, arguments, ws, &mut locals, graph, plan)
 }
 
 // Any of the three machines, for any input: the check first; a run by the schedule's plan if it accepts. Beside the answer it tells the number of

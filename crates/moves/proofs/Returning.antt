@@ -40,7 +40,7 @@ use Rattle.moves.proofs.Stacks.{stack_more, held_more, held_top, same_slots, few
 use Rattle.moves.proofs.OldestFork.{oldest_other, oldest_under, oldest_without_lem, without_none}
 use Rattle.moves.proofs.Sparing.{spared_same, spared_turned, spared_collected}
 
-module _ (w ws ls : List ℕ) (plan : Plan) (s : Registers) (v t kind : ℕ) (q : Returns w ws ls plan s v t kind) where
+module _ {w ws ls : List ℕ} {plan : Plan} {s : Registers} {v t kind : ℕ} (q : Returns w ws ls plan s v t kind) where
   abbrev r : Ready w ws ls plan s
   r = q.ready
 
@@ -201,84 +201,92 @@ either : (w : List ℕ) (f k x y : ℕ) (b : Bool) → Stands w f x k → Stands
 either w f k x y true a c = a
 either w f k x y false a c = c
 
-module _ (w ws ls : List ℕ) (plan : Plan) (s : Registers) (v t : ℕ) where
+-- the kinds from 8 on
+late_slot : (kind : ℕ) → 8 ≤ kind → (c : Code) (x : ℕ) (vs : List ℕ) (g l : ℕ) → slot_of kind c x vs g l ≡ promoted_right g l c x
+unfolding slot_of
+late_slot kind h c x vs g l = get_or-eq_default (slots c x vs g) (promoted_right g l c x) h
+
+late_tag : (kind : ℕ) → 8 ≤ kind → tag_of kind ≡ 6
+late_tag kind h = let k : 5 ≤ kind = omega arith in get_or-eq_default (2 ∷ 2 ∷ 3 ∷ 4 ∷ 5 ∷ []) 6 k
+
+module _ {w ws ls : List ℕ} {plan : Plan} {s : Registers} {v t : ℕ} where
   -- a left operand, or a left value: the frame turns
   pub stepped_left_operand : (q : Returns w ws ls plan s v t 0) → Paid plan s → (ws' ls' : List ℕ) (seat : Seat) → length ws' ≡ length ws → ws' ≡ turned ws (32 * t) 1 v 0 → Child w ws' ls (32 * t) false ls' seat
       → (n : Registers) → n ≡ ticked s (Eval seat.function seat.node seat.count) (t + 1) s.oldest → Stepped w ws ls plan s ws' ls' (Go n)
   unfolding slot_of arrive result_of KeptBy
   stepped_left_operand q paid ws' ls' seat long u h n e =
-      let tag = tag_here w ws ls plan s v t 0 q in
-      let fit = top w ws ls plan s v t 0 q in
+      let tag = tag_here q in
+      let fit = top q in
       let table = q.ready.kept.table in
       rw e (record {
-        same = returned w ws ls plan s v t 0 q ∙ keeps w ws ls plan s v t 0 q paid (left_operand (code_at ws (32 * t))) (right_operand (code_at ws (32 * t)) v) _ refl
-            ∙ rw (turned_code w ws ls plan s v t 0 q 1 0 ws' ls' seat long u h, turned_stack w ws ls plan s v t 0 q 1 0 ws' ls' seat long u h (ordinary (right_operand (code_at ws (32 * t)) v)) (λ vs. refl));
-        kept = turned_kept w ws ls plan s v t 0 q 1 0 ws' ls' seat long u h s.oldest (record { stands = fit.stands; tag = tag; awaits = λ y. absurd (omega arith) }) (arithmetic_in w table fit.stands tag).1
-            (oldest_turned w ws ls plan s v t 0 q 1 0 ws' ls' seat long u h (λ z. omega arith) (λ z. omega arith) (λ z. absurd (omega arith))) q.ready.kept.born;
-        spared = spared_turned ws ws' t (room w ws ls plan s v t 0 q) 1 v 0 u;
+        same = returned q ∙ keeps q paid (left_operand (code_at ws (32 * t))) (right_operand (code_at ws (32 * t)) v) _ refl
+            ∙ rw (turned_code q 1 0 ws' ls' seat long u h, turned_stack q 1 0 ws' ls' seat long u h (ordinary (right_operand (code_at ws (32 * t)) v)) (λ vs. refl));
+        kept = turned_kept q 1 0 ws' ls' seat long u h s.oldest (record { stands = fit.stands; tag = tag; awaits = λ y. absurd (omega arith) }) (arithmetic_in w table fit.stands tag).1
+            (oldest_turned q 1 0 ws' ls' seat long u h (λ z. omega arith) (λ z. omega arith) (λ z. absurd (omega arith))) q.ready.kept.born;
+        spared = spared_turned ws ws' t (room q) 1 v 0 u;
       })
 
   pub stepped_plain_left : (q : Returns w ws ls plan s v t 5) → Paid plan s → (ws' ls' : List ℕ) (seat : Seat) → length ws' ≡ length ws → ws' ≡ turned ws (32 * t) 6 v 0 → Child w ws' ls (32 * t) false ls' seat
       → (o : ℕ) → o ≡ oldest_without s.oldest t → (n : Registers) → n ≡ ticked s (Eval seat.function seat.node seat.count) (t + 1) o → Stepped w ws ls plan s ws' ls' (Go n)
   unfolding slot_of move with_fuel result_of KeptBy
   stepped_plain_left q paid ws' ls' seat long u h o m n e =
-      let x = turned_words w ws ls plan s v t 5 q 6 0 ws' ls' seat long u h in
-      let tag = tag_here w ws ls plan s v t 5 q in
-      let fit = top w ws ls plan s v t 5 q in
+      let x = turned_words q 6 0 ws' ls' seat long u h in
+      let tag = tag_here q in
+      let fit = top q in
       let table = q.ready.kept.table in
       rw (e, m) (record {
-        same = returned w ws ls plan s v t 5 q
-            ∙ rw (lt-ltb _ _ paid, turned_code w ws ls plan s v t 5 q 6 0 ws' ls' seat long u h, turned_stack w ws ls plan s v t 5 q 6 0 ws' ls' seat long u h (plain_right (code_at ws (32 * t)) v) (λ vs. refl));
-        kept = turned_kept w ws ls plan s v t 5 q 6 0 ws' ls' seat long u h (oldest_without s.oldest t) (record { stands = fit.stands; tag = tag; awaits = λ y. absurd (omega arith) }) (both_in w table fit.stands tag).2
-            (oldest_other ws ws' t (sym x.below) (oldest_without s.oldest t) (small w ws ls plan s v t 5 q) (oldest_without_lem ws t s.oldest (small w ws ls plan s v t 5 q) (oldest_here w ws ls plan s v t 5 q)) (λ z. omega (arith, x.is_kind)) (λ z. absurd (omega (arith, x.is_kind))))
+        same = returned q
+            ∙ rw (lt-ltb _ _ paid, turned_code q 6 0 ws' ls' seat long u h, turned_stack q 6 0 ws' ls' seat long u h (plain_right (code_at ws (32 * t)) v) (λ vs. refl));
+        kept = turned_kept q 6 0 ws' ls' seat long u h (oldest_without s.oldest t) (record { stands = fit.stands; tag = tag; awaits = λ y. absurd (omega arith) }) (both_in w table fit.stands tag).2
+            (oldest_other ws ws' t (sym x.below) (oldest_without s.oldest t) (small q) (oldest_without_lem ws t s.oldest (small q) (oldest_here q)) (λ z. omega (arith, x.is_kind)) (λ z. absurd (omega (arith, x.is_kind))))
             (λ z. without_none s.oldest t (q.ready.kept.born z));
-        spared = spared_turned ws ws' t (room w ws ls plan s v t 5 q) 6 v 0 u;
+        spared = spared_turned ws ws' t (room q) 6 v 0 u;
       })
 
   pub stepped_turn : (q : Returns w ws ls plan s v t 7) → (ws' ls' : List ℕ) (seat : Seat) → length ws' ≡ length ws → ws' ≡ turned ws (32 * t) 8 v s.span.0 → Child w ws' ls (32 * t) false ls' seat
       → (n : Registers) → n ≡ restarted s (Eval seat.function seat.node seat.count) (t + 1) s.oldest 0 s.forks → Stepped w ws ls plan s ws' ls' (Go n)
   unfolding slot_of move result_of KeptBy
   stepped_turn q ws' ls' seat long u h n e =
-      let tag = tag_here w ws ls plan s v t 7 q in
-      let fit = top w ws ls plan s v t 7 q in
+      let tag = tag_here q in
+      let fit = top q in
       let table = q.ready.kept.table in
       rw e (record {
-        same = returned w ws ls plan s v t 7 q
-            ∙ rw (turned_code w ws ls plan s v t 7 q 8 s.span.0 ws' ls' seat long u h, turned_stack w ws ls plan s v t 7 q 8 s.span.0 ws' ls' seat long u h (promoted_right (frame_before ws (32 * t)) s.span.0 (code_at ws (32 * t)) v) (λ vs. refl));
-        kept = turned_kept w ws ls plan s v t 7 q 8 s.span.0 ws' ls' seat long u h s.oldest (record { stands = fit.stands; tag = tag; awaits = λ y. absurd (omega arith) }) (both_in w table fit.stands tag).2
-            (oldest_turned w ws ls plan s v t 7 q 8 s.span.0 ws' ls' seat long u h (λ z. omega arith) (λ z. omega arith) (λ z. omega arith)) q.ready.kept.born;
-        spared = spared_turned ws ws' t (room w ws ls plan s v t 7 q) 8 v s.span.0 u;
+        same = returned q
+            ∙ rw (turned_code q 8 s.span.0 ws' ls' seat long u h, turned_stack q 8 s.span.0 ws' ls' seat long u h (promoted_right (frame_before ws (32 * t)) s.span.0 (code_at ws (32 * t)) v) (λ vs. refl));
+        kept = turned_kept q 8 s.span.0 ws' ls' seat long u h s.oldest (record { stands = fit.stands; tag = tag; awaits = λ y. absurd (omega arith) }) (both_in w table fit.stands tag).2
+            (oldest_turned q 8 s.span.0 ws' ls' seat long u h (λ z. omega arith) (λ z. omega arith) (λ z. omega arith)) q.ready.kept.born;
+        spared = spared_turned ws ws' t (room q) 8 v s.span.0 u;
       })
 
   pub stepped_condition : (q : Returns w ws ls plan s v t 2) → Paid plan s → (ls' : List ℕ) (seat : Seat) → Child w ws ls (32 * t) (eqb v 0) ls' seat
       → (n : Registers) → n ≡ ticked s (Eval seat.function seat.node seat.count) t s.oldest → Stepped w ws ls plan s ws ls' (Go n)
   unfolding slot_of arrive Controlled
   stepped_condition q paid ls' seat h n e =
-      let a = choose_in w q.ready.kept.table (top w ws ls plan s v t 2 q).stands (tag_here w ws ls plan s v t 2 q) in
-      closed w ws ls plan s v t 2 q ls' (Eval seat.function seat.node seat.count) _ (child_code w ws ls plan s v t 2 q (eqb v 0) ls' seat h) (child_locals w ws ls plan s v t 2 q (eqb v 0) ls' seat h).sixteen
-      (rw h.seat (either w _ _ _ _ (eqb v 0) a.2 a.1)) (λ x. omega arith) (closes w ws ls plan s v t 2 q paid (condition (code_at ws (32 * t))) _ refl) n e
+      let a = choose_in w q.ready.kept.table (top q).stands (tag_here q) in
+      closed q ls' (Eval seat.function seat.node seat.count) _ (child_code q (eqb v 0) ls' seat h) (child_locals q (eqb v 0) ls' seat h).sixteen
+      (rw h.seat (either w _ _ _ _ (eqb v 0) a.2 a.1)) (λ x. omega arith) (closes q paid (condition (code_at ws (32 * t))) _ refl) n e
 
   pub binding_few : (q : Returns w ws ls plan s v t 3) → frame_count ws (32 * t) + 1 ≤ 16
-  binding_few q = (let_in w q.ready.kept.table (top w ws ls plan s v t 3 q).stands (tag_here w ws ls plan s v t 3 q)).0
+  binding_few q = (let_in w q.ready.kept.table (top q).stands (tag_here q)).0
 
   pub plain_few : (q : Returns w ws ls plan s v t 6) → frame_count ws (32 * t) + 2 ≤ 16
-  plain_few q = (both_in w q.ready.kept.table (top w ws ls plan s v t 6 q).stands (tag_here w ws ls plan s v t 6 q)).0
+  plain_few q = (both_in w q.ready.kept.table (top q).stands (tag_here q)).0
 
   pub stepped_binding : (q : Returns w ws ls plan s v t 3) → Paid plan s → (ls₁ ls₂ : List ℕ) (seat : Seat) → Child w ws ls (32 * t) false ls₁ seat → ls₂ ≡ appended ls₁ seat.count v
       → (n : Registers) → n ≡ ticked s (Eval seat.function seat.node (seat.count + 1)) t s.oldest → Stepped w ws ls plan s ws ls₂ (Go n)
   unfolding slot_of arrive Controlled control_of
   stepped_binding q paid ls₁ ls₂ seat h x n e =
-      let l = child_locals w ws ls plan s v t 3 q false ls₁ seat h in
+      let l = child_locals q false ls₁ seat h in
       let k : seat.count ≡ frame_count ws (32 * t) = ap (λ (z : Seat). z.count) h.seat in
       let a = is_appended ls₁ ls₂ seat.count v (omega (arith, binding_few q)) l.sixteen x in
-      let b = let_in w q.ready.kept.table (top w ws ls plan s v t 3 q).stands (tag_here w ws ls plan s v t 3 q) in
-      closed w ws ls plan s v t 3 q ls₂ (Eval seat.function seat.node (seat.count + 1)) _ (rw (a.are, h.seat, l.are)) a.sixteen
-      (rw h.seat b.2) (λ x. omega arith) (closes w ws ls plan s v t 3 q paid (binding (code_at ws (32 * t))) _ refl) n e
+      let b = let_in w q.ready.kept.table (top q).stands (tag_here q) in
+      closed q ls₂ (Eval seat.function seat.node (seat.count + 1)) _ (rw (a.are, h.seat, l.are)) a.sixteen
+      (rw h.seat b.2) (λ x. omega arith) (closes q paid (binding (code_at ws (32 * t))) _ refl) n e
 
   -- the body of a fork's node
-  module _ (kind : ℕ) (q : Returns w ws ls plan s v t kind) (up : 6 ≤ kind) (few : frame_count ws (32 * t) + 2 ≤ 16) (ls' : List ℕ) (c : Control) (h : Concluded w ws ls (32 * t) v ls' c) where
+  module _ {kind : ℕ} (q : Returns w ws ls plan s v t kind) (up : 6 ≤ kind) (few : frame_count ws (32 * t) + 2 ≤ 16) (ls' : List ℕ) (c : Control) (h : Concluded w ws ls (32 * t) v ls' c) where
     both_locals : (length ls' ≡ 16) × (take (frame_count ws (32 * t) + 2) ls' ≡ frame_locals ws (32 * t) ++ (frame_value ws (32 * t) ∷ v ∷ []))
-    both_locals = body_locals w ws ls (32 * t) (sitting w ws ls plan s v t kind q) few (frame_value ws (32 * t)) v ls' h.locals
+    both_locals = body_locals w ws ls (32 * t) (sitting q) few (frame_value ws (32 * t)) v ls' h.locals
 
     body_code : control_of c ls' ≡ evaluate (at (code_at ws (32 * t)) (third w (code_at ws (32 * t))) ((code_at ws (32 * t)).locals ++ (frame_value ws (32 * t) ∷ v ∷ [])))
     unfolding control_of
@@ -286,32 +294,24 @@ module _ (w ws ls : List ℕ) (plan : Plan) (s : Registers) (v t : ℕ) where
 
     body_kept : tag_of kind ≡ 6 → Kept w ws ls' plan.birth c t s.oldest
     unfolding Controlled
-    body_kept tag = closed_kept w ws ls plan s v t kind q ls' c both_locals.0
-        (rw h.is (both_in w q.ready.kept.table (top w ws ls plan s v t kind q).stands (tag_here w ws ls plan s v t kind q ∙ tag)).3) (λ x. omega arith)
+    body_kept tag = closed_kept q ls' c both_locals.0
+        (rw h.is (both_in w q.ready.kept.table (top q).stands (tag_here q ∙ tag)).3) (λ x. omega arith)
 
   pub stepped_plain_right : (q : Returns w ws ls plan s v t 6) → Paid plan s → (ls' : List ℕ) (c : Control) → Concluded w ws ls (32 * t) v ls' c
       → (n : Registers) → n ≡ ticked s c t s.oldest → Stepped w ws ls plan s ws ls' (Go n)
   unfolding slot_of move with_fuel result_of KeptBy
   stepped_plain_right q paid ls' c h n e = rw e (record {
-    same = returned w ws ls plan s v t 6 q ∙ rw (lt-ltb _ _ paid, body_code 6 q (omega arith) (plain_few q) ls' c h);
-    kept = body_kept 6 q (omega arith) (plain_few q) ls' c h refl;
+    same = returned q ∙ rw (lt-ltb _ _ paid, body_code q (omega arith) (plain_few q) ls' c h);
+    kept = body_kept q (omega arith) (plain_few q) ls' c h refl;
     spared = spared_same ws;
   })
 
-  -- the kinds from 8 on
-  late_slot : (kind : ℕ) → 8 ≤ kind → (c : Code) (x : ℕ) (vs : List ℕ) (g l : ℕ) → slot_of kind c x vs g l ≡ promoted_right g l c x
-  unfolding slot_of
-  late_slot kind h c x vs g l = get_or-eq_default (slots c x vs g) (promoted_right g l c x) h
-
-  late_tag : (kind : ℕ) → 8 ≤ kind → tag_of kind ≡ 6
-  late_tag kind h = let k : 5 ≤ kind = omega arith in get_or-eq_default (2 ∷ 2 ∷ 3 ∷ 4 ∷ 5 ∷ []) 6 k
-
-  module _ (kind : ℕ) (q : Returns w ws ls plan s v t kind) (late : 8 ≤ kind) where
+  module _ {kind : ℕ} (q : Returns w ws ls plan s v t kind) (late : 8 ≤ kind) where
     pub both_few : frame_count ws (32 * t) + 2 ≤ 16
-    both_few = (both_in w q.ready.kept.table (top w ws ls plan s v t kind q).stands (tag_here w ws ls plan s v t kind q ∙ late_tag kind late)).0
+    both_few = (both_in w q.ready.kept.table (top q).stands (tag_here q ∙ late_tag kind late)).0
 
     stack_late : stack_of ws s.depth ≡ promoted_right (frame_before ws (32 * t)) (frame_left ws (32 * t)) (code_at ws (32 * t)) (frame_value ws (32 * t)) ∷ stack_of ws t
-    stack_late = rw (q.depth, ← stack_more ws t, slot_is w ws ls plan s v t kind q, late_slot kind late (code_at ws (32 * t)) (frame_value ws (32 * t)) (frame_arguments ws (32 * t)) (frame_before ws (32 * t)) (frame_left ws (32 * t)))
+    stack_late = rw (q.depth, ← stack_more ws t, slot_is q, late_slot kind late (code_at ws (32 * t)) (frame_value ws (32 * t)) (frame_arguments ws (32 * t)) (frame_before ws (32 * t)) (frame_left ws (32 * t)))
 
     -- what a join adds up
     pub join_fits : (frame_before ws (32 * t) < 2 ^ 60) × (plan.tau ≤ 10000) × (frame_left ws (32 * t) < 2 ^ 60) × (s.span.0 < 2 ^ 60)
@@ -324,9 +324,9 @@ module _ (w ws ls : List ℕ) (plan : Plan) (s : Registers) (v t : ℕ) where
         → (n : Registers) → n ≡ restarted s c t s.oldest m s.forks → Stepped w ws ls plan s ws ls' (Go n)
     unfolding move result_of KeptBy
     stepped_join ls' c h m x n e = rw (e, x) (record {
-      same = returned w ws ls plan s v t kind q
-          ∙ rw (late_slot kind late (code_at ws (32 * t)) (frame_value ws (32 * t)) (frame_arguments ws (32 * t)) (frame_before ws (32 * t)) (frame_left ws (32 * t)), body_code kind q (omega arith) both_few ls' c h);
-      kept = body_kept kind q (omega arith) both_few ls' c h (late_tag kind late);
+      same = returned q
+          ∙ rw (late_slot kind late (code_at ws (32 * t)) (frame_value ws (32 * t)) (frame_arguments ws (32 * t)) (frame_before ws (32 * t)) (frame_left ws (32 * t)), body_code q (omega arith) both_few ls' c h);
+      kept = body_kept q (omega arith) both_few ls' c h (late_tag kind late);
       spared = spared_same ws;
     })
 
@@ -336,7 +336,7 @@ module _ (w ws ls : List ℕ) (plan : Plan) (s : Registers) (v t : ℕ) where
     called_here = is-g ∙ rw (e, is)
 
     pub called_inside : 2 * g + 1 < length w
-    called_inside = omega (arith, called_here, called_in w q.ready.kept.table (top w ws ls plan s v t 4 q).stands (tag_here w ws ls plan s v t 4 q), q.ready.kept.table.contents.header.room)
+    called_inside = omega (arith, called_here, called_in w q.ready.kept.table (top q).stands (tag_here q), q.ready.kept.table.contents.header.room)
 
   -- THE ARGUMENTS OF A CALL
   module _ (q : Returns w ws ls plan s v t 4) (n : ℕ) (is-n : n ≡ frame_value ws (32 * t)) where
@@ -344,66 +344,66 @@ module _ (w ws ls : List ℕ) (plan : Plan) (s : Registers) (v t : ℕ) where
     caller = code_at ws (32 * t)
 
     pub few_here : n < 3
-    few_here = rw is-n (few_arguments w q.ready.kept.table _ _ _ _ _ (top w ws ls plan s v t 4 q) q.of_kind)
+    few_here = rw is-n (few_arguments w q.ready.kept.table _ _ _ _ _ (top q) q.of_kind)
 
     pub awaits_here : n < arity_at w (called_at w ws (32 * t))
-    awaits_here = rw is-n ((top w ws ls plan s v t 4 q).awaits q.of_kind)
+    awaits_here = rw is-n ((top q).awaits q.of_kind)
 
     length_more : length (frame_arguments ws (32 * t) ++ (v ∷ [])) ≡ n + 1
     length_more =
-        let x : frame_value ws (32 * t) ≤ length (drop (arguments_word (32 * t)) ws) = simp length-drop (omega (arith, room w ws ls plan s v t 4 q, few_here)) in
+        let x : frame_value ws (32 * t) ≤ length (drop (arguments_word (32 * t)) ws) = simp length-drop (omega (arith, room q, few_here)) in
         length-append (frame_arguments ws (32 * t)) (v ∷ []) ∙ rw (length-take-le _ _ x, ← is-n)
 
     pub stepped_next_argument : Paid plan s → n + 1 < arity_at w (called_at w ws (32 * t)) → (ws' ls' : List ℕ) (seat : Seat) → length ws' ≡ length ws → ws' ≡ collected ws (32 * t) n v → Child w ws' ls (32 * t) (ltb 1 (n + 1)) ls' seat
         → (m : Registers) → m ≡ ticked s (Eval seat.function seat.node seat.count) (t + 1) s.oldest → Stepped w ws ls plan s ws' ls' (Go m)
     unfolding slot_of arrive gathered result_of KeptBy Controlled control_of
     stepped_next_argument paid less ws' ls' seat long c h m e =
-        let u = is_collected ws ws' (32 * t) (room w ws ls plan s v t 4 q) n v few_here c in
-        let l = frame_locals_lem w ws' ls (32 * t) (sitting_collected w ws ls plan s v t 4 q n few_here ws' long c) ls' h.locals in
+        let u = is_collected ws ws' (32 * t) (room q) n v few_here c in
+        let l = frame_locals_lem w ws' ls (32 * t) (sitting_collected q n few_here ws' long c) ls' h.locals in
         let table = q.ready.kept.table in
-        let fit = top w ws ls plan s v t 4 q in
-        let tag = tag_here w ws ls plan s v t 4 q in
+        let fit = top q in
+        let tag = tag_here q in
         let more = frame_arguments ws (32 * t) ++ (v ∷ []) in
         let locals = u.is_locals (frame_count ws (32 * t)) fit.stands.few in
-        let below = same_slots w ws ws' table long t (sym u.below) (omega (arith, room w ws ls plan s v t 4 q)) (rest w ws ls plan s v t 4 q) in
+        let below = same_slots w ws ws' table long t (sym u.below) (omega (arith, room q)) (rest q) in
         let kind : frame_kind ws' (32 * t) ≡ 4 = u.is_kind ∙ q.of_kind in
         let slot : slot_at ws' (32 * t) ≡ ordinary (argument caller more) = rw (kind, u.is_function, u.is_node, u.is_count, locals, u.is_value, u.is_arguments, is-n) in
         let stack : stack_of ws' (t + 1) ≡ ordinary (argument caller more) ∷ stack_of ws t = sym (stack_more ws' t) ∙ rw (slot, below.0) in
         let control : control_of (Eval seat.function seat.node seat.count) ls' ≡ evaluate (at caller (cond (ltb 1 (n + 1)) (third w caller) (second w caller)) caller.locals) =
         rw (h.seat, l.are, u.is_function, u.is_node, u.is_count, locals) in
         rw e (record {
-          same = returned w ws ls plan s v t 4 q
-              ∙ keeps w ws ls plan s v t 4 q paid (argument caller (frame_arguments ws (32 * t))) (argument caller more) (at caller (cond (ltb 1 (n + 1)) (third w caller) (second w caller)) caller.locals) (rw (length_more, lt-ltb _ _ less))
+          same = returned q
+              ∙ keeps q paid (argument caller (frame_arguments ws (32 * t))) (argument caller more) (at caller (cond (ltb 1 (n + 1)) (third w caller) (second w caller)) caller.locals) (rw (length_more, lt-ltb _ _ less))
               ∙ rw (control, stack);
           kept = record {
             table = table;
             sixteen = l.sixteen;
-            room = omega (arith, room w ws ls plan s v t 4 q);
+            room = omega (arith, room q);
             held = held_more w ws' t (rw (kind, u.is_function, u.is_node, u.is_count, u.is_value) (record { stands = fit.stands; tag = tag; awaits = λ y. less })) below.1;
             control = rw (h.seat, u.is_function, u.is_node, u.is_count) (argument_later w table fit.stands tag (n + 1) (omega arith) less);
-            oldest = oldest_other ws ws' t (sym u.below) s.oldest (small w ws ls plan s v t 4 q) (oldest_under ws t s.oldest (oldest_here w ws ls plan s v t 4 q) (λ z. omega (arith, q.of_kind))) (λ z. omega arith) (λ z. absurd (omega arith));
+            oldest = oldest_other ws ws' t (sym u.below) s.oldest (small q) (oldest_under ws t s.oldest (oldest_here q) (λ z. omega (arith, q.of_kind))) (λ z. omega arith) (λ z. absurd (omega arith));
             born = q.ready.kept.born;
           };
-          spared = spared_collected ws ws' t (room w ws ls plan s v t 4 q) n v few_here c;
+          spared = spared_collected ws ws' t (room q) n v few_here c;
         })
 
     pub stepped_last_argument : Paid plan s → (g : ℕ) → g ≡ called_at w ws (32 * t) → arity_at w g ≤ n + 1 → (ls₁ ls₂ : List ℕ) → ls₁ ≡ loaded ls ws (arguments_word (32 * t)) n → ls₂ ≡ appended ls₁ n v
         → (m : Registers) → m ≡ ticked s (Eval g 0 (n + 1)) t s.oldest → Stepped w ws ls plan s ws ls₂ (Go m)
     unfolding slot_of arrive gathered Controlled control_of
     stepped_last_argument paid g is-g most ls₁ ls₂ x y m e =
-        let l = is_loaded ls ws ls₁ (arguments_word (32 * t)) n (omega (arith, few_here)) (omega (arith, few_here, room w ws ls plan s v t 4 q)) q.ready.kept.sixteen x in
+        let l = is_loaded ls ws ls₁ (arguments_word (32 * t)) n (omega (arith, few_here)) (omega (arith, few_here, room q)) q.ready.kept.sixteen x in
         let a = is_appended ls₁ ls₂ n v (omega (arith, few_here)) l.sixteen y in
         let table = q.ready.kept.table in
-        let fit = top w ws ls plan s v t 4 q in
+        let fit = top q in
         let more = frame_arguments ws (32 * t) ++ (v ∷ []) in
         let is-arity : arity_at w g ≡ n + 1 = omega (arith, most, rw (← is-g) at awaits_here) in
-        let callee : g < functions w = rw is-g (called_in w table fit.stands (tag_here w ws ls plan s v t 4 q)) in
+        let callee : g < functions w = rw is-g (called_in w table fit.stands (tag_here q)) in
         let control : control_of (Eval g 0 (n + 1)) ls₂ ≡ evaluate (entered (called w caller) more) = rw (a.are, l.are, is-n, is-g) in
-        closed w ws ls plan s v t 4 q ls₂ (Eval g 0 (n + 1)) (evaluate (entered (called w caller) more)) control a.sixteen (rw (← is-arity) (enter w table fit.stands g callee)) (λ x. omega arith)
-        (closes w ws ls plan s v t 4 q paid (argument caller (frame_arguments ws (32 * t))) (evaluate (entered (called w caller) more)) (rw (length_more, le-ltb _ _ (rw is-g at most)))) m e
+        closed q ls₂ (Eval g 0 (n + 1)) (evaluate (entered (called w caller) more)) control a.sixteen (rw (← is-arity) (enter w table fit.stands g callee)) (λ x. omega arith)
+        (closes q paid (argument caller (frame_arguments ws (32 * t))) (evaluate (entered (called w caller) more)) (rw (length_more, le-ltb _ _ (rw is-g at most)))) m e
 
 -- A RIGHT OPERAND
-module _ (w ws ls : List ℕ) (plan : Plan) (s : Registers) (v t : ℕ) (q : Returns w ws ls plan s v t 1) where
+module _ {w ws ls : List ℕ} {plan : Plan} {s : Registers} {v t : ℕ} (q : Returns w ws ls plan s v t 1) where
   abbrev x : ℕ
   x = frame_value ws (32 * t)
 
@@ -411,7 +411,7 @@ module _ (w ws ls : List ℕ) (plan : Plan) (s : Registers) (v t : ℕ) (q : Ret
   frame = right_operand (code_at ws (32 * t)) (frame_value ws (32 * t))
 
   the_operation : (o : Operation) × (node_at w (start_of w (frame_function ws (32 * t))) (frame_node ws (32 * t)) ≡ Arithmetic o (b_at w (start_of w (frame_function ws (32 * t))) (frame_node ws (32 * t))))
-  the_operation = operation_in w q.ready.kept.table (top w ws ls plan s v t 1 q).stands (tag_here w ws ls plan s v t 1 q)
+  the_operation = operation_in w q.ready.kept.table (top q).stands (tag_here q)
 
   arrives : arrive w frame v ≡ result (computed the_operation.0 x v)
   unfolding arrive operated
@@ -422,36 +422,36 @@ module _ (w ws ls : List ℕ) (plan : Plan) (s : Registers) (v t : ℕ) (q : Ret
   steps = rw the_operation.1
 
   pub operand : Operand w ws (32 * t)
-  operand = record { table = q.ready.kept.table; room = room w ws ls plan s v t 1 q; stands = (top w ws ls plan s v t 1 q).stands; tag = tag_here w ws ls plan s v t 1 q }
+  operand = record { table = q.ready.kept.table; room = room q; stands = (top q).stands; tag = tag_here q }
 
   pub stepped_result : Paid plan s → (z : ℕ) → Ok z ≡ operation w ws (32 * t) v → (n : Registers) → n ≡ ticked s (Ret z) t s.oldest → Stepped w ws ls plan s ws ls (Go n)
   unfolding slot_of control_of Controlled
   stepped_result paid z e n u =
-      closed w ws ls plan s v t 1 q ls (Ret z) (return z) refl q.ready.kept.sixteen tt (λ y. omega arith)
-      (closes w ws ls plan s v t 1 q paid frame (return z) (arrives ∙ value_only _ _ z (computed the_operation.0 x v) (e ∙ steps))) n u
+      closed q ls (Ret z) (return z) refl q.ready.kept.sixteen tt (λ y. omega arith)
+      (closes q paid frame (return z) (arrives ∙ value_only _ _ z (computed the_operation.0 x v) (e ∙ steps))) n u
 
   pub stepped_failure : Paid plan s → (h : Stopped) → Err h ≡ operation w ws (32 * t) v → Stepped w ws ls plan s ws ls (Halt h)
   unfolding slot_of result_of KeptBy
   stepped_failure paid h e =
       let o = failure_only _ _ h (computed the_operation.0 x v) (e ∙ steps) in
-      rw o.0 (record { same = returned w ws ls plan s v t 1 q ∙ fails w ws ls plan s v t 1 q paid frame h.number (arrives ∙ o.1); kept = tt; spared = spared_same ws })
+      rw o.0 (record { same = returned q ∙ fails q paid frame h.number (arrives ∙ o.1); kept = tt; spared = spared_same ws })
 
   pub stepped_resumed : Paid plan s → (o : prelude.Result ℕ Stopped) → o ≡ operation w ws (32 * t) v → (r : Step) → Resumed s t o r → Stepped w ws ls plan s ws ls r
   stepped_resumed paid o e r (resumes z i u) = rw u (stepped_result paid z (sym i ∙ e) _ refl)
   stepped_resumed paid o e r (stays h i u) = rw u (stepped_failure paid h (sym i ∙ e))
 
 -- NO FUEL: a frame that is not promoted is not reached
-module _ (w ws ls : List ℕ) (plan : Plan) (s : Registers) (v t kind : ℕ) (q : Returns w ws ls plan s v t kind) (dry : plan.fuel.0 ≤ s.transitions) where
+module _ {w ws ls : List ℕ} {plan : Plan} {s : Registers} {v t kind : ℕ} (q : Returns w ws ls plan s v t kind) (dry : plan.fuel.0 ≤ s.transitions) where
   abbrev spent : Result (spans plan.tau) (language w)
   spent = ended (stop 20 (place (code_at ws (32 * t)))) s.span.0 (run_counts_of s)
 
-  ordinary_dry : (fr : Frame) (a : Arrival Code Frame) → arrive w fr v ≡ a → frame_place fr ≡ place (code_at ws (32 * t)) → from w ws ls plan s v t kind q (ordinary fr) ≡ spent
+  ordinary_dry : (fr : Frame) (a : Arrival Code Frame) → arrive w fr v ≡ a → frame_place fr ≡ place (code_at ws (32 * t)) → from q (ordinary fr) ≡ spent
   unfolding move arrived with_fuel
   ordinary_dry fr (close c) e p = rw (e, le-ltb _ _ dry, p)
   ordinary_dry fr (keep f c) e p = rw (e, le-ltb _ _ dry, p)
   ordinary_dry fr (fail i) e p = rw (e, le-ltb _ _ dry, p)
 
-  by_kind : (k : ℕ) → k < 7 → (x : ℕ) (vs : List ℕ) (g l : ℕ) → from w ws ls plan s v t kind q (slot_of k (code_at ws (32 * t)) x vs g l) ≡ spent
+  by_kind : (k : ℕ) → k < 7 → (x : ℕ) (vs : List ℕ) (g l : ℕ) → from q (slot_of k (code_at ws (32 * t)) x vs g l) ≡ spent
   unfolding slot_of move with_fuel
   by_kind zero h x vs g l = ordinary_dry (left_operand (code_at ws (32 * t))) _ refl refl
   by_kind (suc zero) h x vs g l = ordinary_dry (right_operand (code_at ws (32 * t)) x) _ refl refl
@@ -464,7 +464,7 @@ module _ (w ws ls : List ℕ) (plan : Plan) (s : Registers) (v t kind : ℕ) (q 
 
   pub stepped_dry : kind < 7 → (r : Seat) → r ≡ seat_at ws (32 * t) → (o : Step) → o ≡ halted 20 r.function r.node → Stepped w ws ls plan s ws ls o
   unfolding result_of KeptBy
-  stepped_dry h r is o e = rw (e, is) (record { same = returned w ws ls plan s v t kind q ∙ by_kind kind h _ _ _ _; kept = tt; spared = spared_same ws })
+  stepped_dry h r is o e = rw (e, is) (record { same = returned q ∙ by_kind kind h _ _ _ _; kept = tt; spared = spared_same ws })
 
 -- NO FRAME LEFT
 pub stepped_done : (w ws ls : List ℕ) (plan : Plan) (s : Registers) (v : ℕ) → s.control ≡ Ret v → s.depth ≡ 0 → Stepped w ws ls plan s ws ls (Value v)

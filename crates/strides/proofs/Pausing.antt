@@ -79,7 +79,7 @@ module _ {w ws ls : List ℕ} {plan : Plan} {g : Compact} where
         (λ b d i. low (tag_is w ready.kept.table site ∙ fork_tag w code (node_at w (start_of w seat.function) seat.node) b d i)) _ refl) r e
 
     pub value_spent : {seat : Seat} {v top kind : ℕ} → Returning w ws ls plan g v top kind → kind < 7 → seat ≡ seat_at ws (32 * top) → (r : Progress) → r ≡ twenty seat → Ends w ws ls plan g r
-    value_spent {seat} {v} {top} {kind} q low is r e = stop_ends seat (stepped_dry w ws ls plan (full g) v top kind (returned q) h low seat is _ refl) r e
+    value_spent {seat} {v} {top} {kind} q low is r e = stop_ends seat (stepped_dry (returned q) h low seat is _ refl) r e
 
   pub value_ends : Calm w ws ls plan g → {v : ℕ} → g.control ≡ Ret v → g.depth ≡ 0 → Ends w ws ls plan g (Value v)
   value_ends c {v} e d = record {

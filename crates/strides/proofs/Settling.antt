@@ -86,7 +86,7 @@ unfolding result_of made
 paid_rises w ws ls plan s v t kind q h ws' ls' o m next e =
     let code = code_at ws (32 * t) in
     let x = slot_of kind code (frame_value ws (32 * t)) (frame_arguments ws (32 * t)) (frame_before ws (32 * t)) (frame_left ws (32 * t)) in
-    let goes = sym (returned w ws ls plan s v t kind q) ∙ (rw e at m.same) in
+    let goes = sym (returned q) ∙ (rw e at m.same) in
     let up = plain_rises (moved (move_view (spans plan.tau) (language w) plan.fuel.0 (length ws / 32) plan.birth _) goes) (plain_slot kind code _ _ _ _ h) in
     omega (arith, up)
 

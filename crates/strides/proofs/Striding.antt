@@ -265,7 +265,7 @@ module _ {w ws ls : List ℕ} {plan : Plan} {g : Compact} {v top : ℕ} (q : Ret
   pub operand : Operand w ws (32 * top)
   operand =
       let t = returned q in
-      record { table = t.ready.kept.table; room = room w ws ls plan (full g) v top 0 t; stands = (frame-top w ws ls plan (full g) v top 0 t).stands; tag = frame-tag w ws ls plan (full g) v top 0 t }
+      record { table = t.ready.kept.table; room = room t; stands = (frame-top t).stands; tag = frame-tag t }
 
   pub rebounds_strides : (r : Option Compact) (next : Compact) → r ≡ Some next → Rebounds w ws g v top r → Strides w ws ls plan g ws ls (Go next)
   rebounds_strides r next e j = rebound_strides q.calm.starts v top q.is q.depth q.of_kind next (rw e at j)

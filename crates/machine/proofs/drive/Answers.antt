@@ -8,13 +8,13 @@ use Rattle.machine.proofs.drive.Goals as goal
 
 pub loop-pause-init : goal.loop-pause-init
 loop-pause-init c =
-    (running_first c.requires.0 c.begin-from.ensures, tracking_first _ c.requires.0 c.begin-from.ensures, refl)
+    (running_first c.requires c.begin-from.ensures, tracking_first _ c.requires c.begin-from.ensures, refl)
 
 pub onward-reached-requires : goal.onward-reached-requires
-onward-reached-requires c = (c.loop-pause.invariant.0.starts, c.requires.1)
+onward-reached-requires c = c.loop-pause.invariant.0.starts
 
 pub resolved-step-requires : goal.resolved-step-requires
-resolved-step-requires c = (limit_awaits c.onward-reached.ensures, c.requires.1)
+resolved-step-requires c = limit_awaits c.onward-reached.ensures
 
 pub finish-requires : goal.finish-requires
 finish-requires c =
@@ -28,7 +28,7 @@ shape_of-ws-in_default c = omega (arith, c.loop-pause.invariant.0.long, c.onward
 
 pub shape_of-locals-in_default : goal.shape_of-locals-in_default
 shape_of-locals-in_default c =
-    omega (arith, c.loop-pause.invariant.0.starts.ready.kept.sixteen, c.requires.0.sixteen, c.onward-reached.auto.locals)
+    omega (arith, c.loop-pause.invariant.0.starts.ready.kept.sixteen, c.requires.sixteen, c.onward-reached.auto.locals)
 
 pub shape_of-graph-in_default : goal.shape_of-graph-in_default
 shape_of-graph-in_default c = omega (arith, c.loop-pause.invariant.2, c.finish.auto.graph)
@@ -44,7 +44,7 @@ pub free-moved-requires : goal.free-moved-requires
 free-moved-requires c =
     let i = c.loop-pause.invariant in
     let x = pause_next c.onward-reached.ensures c.resolved-step.ensures i.0 i.1 _ c.in-Paused.is in
-    (x.0.starts, x.3, x.4, c.requires.1, free_markable x.0 x.1 _ x.3 x.4)
+    (x.0.starts, x.3, x.4, free_markable x.0 x.1 _ x.3 x.4)
 
 pub finish-requires-in_default-end : goal.finish-requires-in_default-end
 finish-requires-in_default-end c =
@@ -59,7 +59,7 @@ shape_of-ws-in_default-end c =
 
 pub shape_of-locals-in_default-end : goal.shape_of-locals-in_default-end
 shape_of-locals-in_default-end c =
-    omega (arith, c.loop-pause.invariant.0.starts.ready.kept.sixteen, c.requires.0.sixteen, c.onward-reached.auto.locals, c.free-moved.auto.locals)
+    omega (arith, c.loop-pause.invariant.0.starts.ready.kept.sixteen, c.requires.sixteen, c.onward-reached.auto.locals, c.free-moved.auto.locals)
 
 pub shape_of-graph-in_default-end : goal.shape_of-graph-in_default-end
 shape_of-graph-in_default-end c =

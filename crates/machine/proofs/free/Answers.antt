@@ -5,21 +5,21 @@ use Rattle.machine.proofs.free.Goals as goal
 pub promoted-requires : goal.promoted-requires
 unfolding event_of Fits
 promoted-requires c =
-    let e = c.in-Promotion.is in (c.requires.0, rw e at c.requires.1, (rw e at c.requires.4) tt)
+    let e = c.in-Promotion.is in (c.requires.0, rw e at c.requires.1, (rw e at c.requires.3) tt)
 
 pub forked-requires : goal.forked-requires
 unfolding event_of Fits
-forked-requires c = let e = c.in-Fork.is in (c.requires.0, rw e at c.requires.1, rw e at c.requires.4)
+forked-requires c = let e = c.in-Fork.is in (c.requires.0, rw e at c.requires.1, rw e at c.requires.3)
 
 pub turned-requires : goal.turned-requires
 unfolding event_of Fits
 turned-requires c =
-    let e = c.in-Turn.is in (c.requires.0, rw e at c.requires.1, c.requires.3, (rw e at c.requires.4) tt)
+    let e = c.in-Turn.is in (c.requires.0, rw e at c.requires.1, (rw e at c.requires.3) tt)
 
 pub joined-requires : goal.joined-requires
 unfolding event_of Fits
 joined-requires c =
-    let e = c.in-Join.is in (c.requires.0, rw e at c.requires.1, c.requires.3, (rw e at c.requires.4) tt)
+    let e = c.in-Join.is in (c.requires.0, rw e at c.requires.1, (rw e at c.requires.3) tt)
 
 pub returns-in-Promotion : goal.returns-in-Promotion
 unfolding event_of

@@ -7,17 +7,17 @@ use native.Mathlib.Omega.{arith}
 use Rattle.machine.proofs.onward.Goals as goal
 
 pub loop-next-init : goal.loop-next-init
-loop-next-init c = (here, c.requires.0, refl)
+loop-next-init c = (here, c.requires, refl)
 
 pub stride-step-requires : goal.stride-step-requires
-stride-step-requires c = (c.loop-next.invariant.1, c.requires.1)
+stride-step-requires c = c.loop-next.invariant.1
 
 pub shape_of-ws-in_default : goal.shape_of-ws-in_default
 shape_of-ws-in_default c = omega (arith, c.loop-next.invariant.2, c.stride-step.auto.ws)
 
 pub shape_of-locals-in_default : goal.shape_of-locals-in_default
 shape_of-locals-in_default c =
-    omega (arith, c.loop-next.invariant.1.ready.kept.sixteen, c.requires.0.ready.kept.sixteen, c.stride-step.auto.locals)
+    omega (arith, c.loop-next.invariant.1.ready.kept.sixteen, c.requires.ready.kept.sixteen, c.stride-step.auto.locals)
 
 pub returns-in_default : goal.returns-in_default
 returns-in_default c =

@@ -7,17 +7,17 @@ use Rattle.machine.proofs.run.Goals as goal
 
 pub copy-requires : goal.copy-requires
 copy-requires c =
-    let room = few c.args.words.now c.args.arguments.now _ _ c.requires.0 in (omega (arith, c.requires.2), omega arith)
+    let room = few c.args.job.words.now c.args.arguments.now _ _ c.requires.0 in (omega (arith, c.requires.1), omega arith)
 
 pub drive-ran-requires : goal.drive-ran-requires
 drive-ran-requires c =
-    (record { table = c.requires.0.table; limits = c.requires.0.limits; sixteen = c.copy.auto.dst ∙ c.requires.2; arguments = c.requires.0.count }, c.requires.1)
+    record { table = c.requires.0.table; limits = c.requires.0.limits; sixteen = c.copy.auto.dst ∙ c.requires.1; arguments = c.requires.0.count }
 
 pub returns : goal.returns
 returns c =
-    let room = few c.args.words.now c.args.arguments.now _ _ c.requires.0 in
-    let same = copied c.args.locals.now c.args.arguments.now _ (omega (arith, c.requires.2)) c.copy.ensures in (
-      ran_with c.args.words.now _ c.args.arguments.now _ c.args.plan _ same c.drive-ran.ensures.0,
+    let room = few c.args.job.words.now c.args.arguments.now _ _ c.requires.0 in
+    let same = copied c.args.locals.now c.args.arguments.now _ (omega (arith, c.requires.1)) c.copy.ensures in (
+      ran_with c.args.job.words.now _ c.args.arguments.now _ c.args.plan _ same c.drive-ran.ensures.0,
       zeroed c.args.ws.now _ _ _ c.clear.ensures c.drive-ran.auto.ws (c.drive-ran.ensures.0.began _),
-      wrote_with c.args.words.now _ c.args.arguments.now _ c.args.plan _ _ _ same c.drive-ran.ensures.1,
+      wrote_with c.args.job.words.now _ c.args.arguments.now _ c.args.plan _ _ _ same c.drive-ran.ensures.1,
     )

@@ -6,16 +6,16 @@ use Rattle.moves.proofs.last_argument.Goals as goal
 
 pub load_arguments-requires : goal.load_arguments-requires
 load_arguments-requires c =
-    omega (arith, room _ _ _ _ _ _ _ 4 c.requires.0, few_here _ _ _ _ _ _ _ c.requires.0 c.args.n c.requires.2, c.requires.0.ready.kept.sixteen)
+    omega (arith, room c.requires.0, few_here c.requires.0 c.args.n c.requires.2, c.requires.0.ready.kept.sixteen)
 
 pub append-requires : goal.append-requires
 append-requires c =
-    omega (arith, few_here _ _ _ _ _ _ _ c.requires.0 c.args.n c.requires.2, c.load_arguments.auto.locals, c.requires.0.ready.kept.sixteen)
+    omega (arith, few_here c.requires.0 c.args.n c.requires.2, c.load_arguments.auto.locals, c.requires.0.ready.kept.sixteen)
 
 pub overflow_add-count : goal.overflow_add-count
 overflow_add-count c =
-    omega (arith, few_here _ _ _ _ _ _ _ c.requires.0 c.args.n c.requires.2)
+    omega (arith, few_here c.requires.0 c.args.n c.requires.2)
 
 pub returns : goal.returns
 returns c =
-    (stepped_last_argument _ _ _ _ _ _ _ c.requires.0 c.args.n c.requires.2 c.requires.1 c.args.g c.requires.4 c.requires.3 _ _ c.load_arguments.ensures c.append.ensures _ c.tick.ensures, ticks_go c.args.s _ _ _ c.tick.ensures)
+    (stepped_last_argument c.requires.0 c.args.n c.requires.2 c.requires.1 c.args.g c.requires.4 c.requires.3 _ _ c.load_arguments.ensures c.append.ensures _ c.tick.ensures, ticks_go c.args.s c.tick.ensures)

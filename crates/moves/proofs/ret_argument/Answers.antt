@@ -7,14 +7,14 @@ use Rattle.moves.proofs.ret_argument.Goals as goal
 
 pub start-requires : goal.start-requires
 start-requires c =
-    frame_start c.args.ws.now (32 * c.args.top) c.requires.0.ready.kept.table (top _ _ _ _ _ _ _ _ c.requires.0).stands c.seat_of-seat.ensures
+    frame_start c.args.ws.now (32 * c.args.top) c.requires.0.ready.kept.table (top c.requires.0).stands c.seat_of-seat.ensures
 
 pub called-g-requires : goal.called-g-requires
 called-g-requires c =
-    frame_inside c.args.ws.now (32 * c.args.top) c.requires.0.ready.kept.table (top _ _ _ _ _ _ _ _ c.requires.0).stands c.seat_of-seat.ensures c.start.ensures
+    frame_inside c.args.ws.now (32 * c.args.top) c.requires.0.ready.kept.table (top c.requires.0).stands c.seat_of-seat.ensures c.start.ensures
 
 pub overflow_add-n : goal.overflow_add-n
-overflow_add-n c = omega (arith, few_here _ _ _ _ _ _ _ c.requires.0 _ c.value_of-n.ensures)
+overflow_add-n c = omega (arith, few_here c.requires.0 _ c.value_of-n.ensures)
 
 pub arity-requires : goal.arity-requires
-arity-requires c = called_inside _ _ _ _ _ _ _ c.requires.0 c.seat_of-seat.ensures c.start.ensures c.called-g.ensures
+arity-requires c = called_inside c.requires.0 c.seat_of-seat.ensures c.start.ensures c.called-g.ensures

@@ -5,8 +5,8 @@ use Rattle.moves.proofs.ret_condition.Goals as goal
 
 pub child-seat-requires : goal.child-seat-requires
 child-seat-requires c =
-    sitting _ _ _ _ _ _ _ 2 c.requires.0
+    sitting c.requires.0
 
 pub returns : goal.returns
 returns c =
-    (stepped_condition _ _ _ _ _ _ _ c.requires.0 c.requires.1 _ _ c.child-seat.ensures _ c.tick.ensures, ticks_go c.args.s _ _ _ c.tick.ensures)
+    (stepped_condition c.requires.0 c.requires.1 _ _ c.child-seat.ensures _ c.tick.ensures, ticks_go c.args.s c.tick.ensures)

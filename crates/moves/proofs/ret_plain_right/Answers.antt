@@ -5,8 +5,8 @@ use Rattle.moves.proofs.ret_plain_right.Goals as goal
 
 pub body-control-requires : goal.body-control-requires
 body-control-requires c =
-    (sitting _ _ _ _ _ _ _ 6 c.requires.0, plain_few _ _ _ _ _ _ _ c.requires.0)
+    (sitting c.requires.0, plain_few c.requires.0)
 
 pub returns : goal.returns
 returns c =
-    (stepped_plain_right _ _ _ _ _ _ _ c.requires.0 c.requires.1 _ _ c.body-control.ensures _ c.tick.ensures, ticks_go c.args.s _ _ _ c.tick.ensures)
+    (stepped_plain_right c.requires.0 c.requires.1 _ _ c.body-control.ensures _ c.tick.ensures, ticks_go c.args.s c.tick.ensures)

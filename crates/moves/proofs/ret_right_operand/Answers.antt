@@ -5,8 +5,8 @@ use Rattle.moves.proofs.ret_right_operand.Goals as goal
 
 pub operated-computed-requires : goal.operated-computed-requires
 operated-computed-requires c =
-    operand _ _ _ _ _ _ _ c.requires.0
+    operand c.requires.0
 
 pub returns : goal.returns
 returns c =
-    (stepped_resumed _ _ _ _ _ _ _ c.requires.0 c.requires.1 _ c.operated-computed.ensures _ c.resumed.ensures, ticks_resumed c.args.s c.args.top _ _ c.resumed.ensures)
+    (stepped_resumed c.requires.0 c.requires.1 _ c.operated-computed.ensures _ c.resumed.ensures, ticks_resumed c.resumed.ensures)
