@@ -32,7 +32,6 @@ use graph_answers::Graphed;
 use language::{Answer, Counts, Settings, Stop};
 use moves::{Control, Plan, Registers};
 use schedule::{Fuel, Span, Work};
-use table::Reading;
 
 // The period of a machine that never promotes: above any fuel.
 const NEVER: u64 = 18446744073709551615;
@@ -383,7 +382,7 @@ fn machine(
     let read = language::checked(words, arguments.len(), settings, workspace.len());
     let fuel = settings.fuel;
     match read {
-        Reading::Accepted => launch(
+        Ok(()) => launch(
             words,
             arguments,
             workspace,
@@ -395,7 +394,7 @@ fn machine(
                 fuel,
             },
         ),
-        Reading::Refused(refusal) => Graphed {
+        Err(refusal) => Graphed {
             answer: Answer::Refused(refusal),
             words: 1,
         },

@@ -8,20 +8,20 @@ use Rattle.machine.proofs.machine.Goals as goal
 
 pub launch-requires : goal.launch-requires
 launch-requires c =
-    let a = c.checked-read.ensures.assures.0 c.in-Accepted.is in record { table = a.table; count = a.arguments; limits = record { fuel = omega arith; tau = omega arith; frames = omega arith } }
+    let a = c.checked-read.ensures.assures.0 c.in-Ok.is in record { table = a.table; count = a.arguments; limits = record { fuel = omega arith; tau = omega arith; frames = omega arith } }
 
-pub returns-in-Accepted : goal.returns-in-Accepted
-returns-in-Accepted c =
-    let a = c.checked-read.ensures.assures.0 c.in-Accepted.is in (
-      tells_run c.args.words.now c.args.arguments.now _ _ _ _ _ _ c.checked-read.ensures.answer c.in-Accepted.is a (omega arith) _ _ c.launch.ensures.0 (omega arith) (omega arith),
+pub returns-in-Ok : goal.returns-in-Ok
+returns-in-Ok c =
+    let a = c.checked-read.ensures.assures.0 c.in-Ok.is in (
+      tells_run c.args.words.now c.args.arguments.now _ _ _ _ _ _ c.checked-read.ensures.answer c.in-Ok.is a (omega arith) _ _ c.launch.ensures.0 (omega arith) (omega arith),
       c.launch.ensures.1,
-      lends_run c.args.words.now c.args.arguments.now _ _ _ _ _ _ c.checked-read.ensures.answer (omega arith) c.in-Accepted.is a _ _ _ _ c.launch.ensures.2 (omega arith),
+      lends_run c.args.words.now c.args.arguments.now _ _ _ _ _ _ c.checked-read.ensures.answer (omega arith) c.in-Ok.is a _ _ _ _ c.launch.ensures.2 (omega arith),
     )
 
-pub returns-in-Refused : goal.returns-in-Refused
+pub returns-in-Err : goal.returns-in-Err
 unfolding left_by
-returns-in-Refused c = (
-  tells_refusal c.args.words.now c.args.arguments.now _ _ _ _ _ _ c.checked-read.ensures.answer _ c.in-Refused.is (omega arith) _ _,
+returns-in-Err c = (
+  tells_refusal c.args.words.now c.args.arguments.now _ _ _ _ _ _ c.checked-read.ensures.answer _ c.in-Err.is (omega arith) _ _,
   refl,
-  lends_refusal c.args.words.now c.args.arguments.now _ _ _ _ _ _ c.checked-read.ensures.answer (omega arith) _ c.in-Refused.is _ _ _,
+  lends_refusal c.args.words.now c.args.arguments.now _ _ _ _ _ _ c.checked-read.ensures.answer (omega arith) _ c.in-Err.is _ _ _,
 )
