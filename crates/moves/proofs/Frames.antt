@@ -55,11 +55,11 @@ module _ {w : List ℕ} (ws : List ℕ) (b : ℕ) (table : WellFormed w) (s : St
 
 -- two locals more
 pub concluded : (w ws ls : List ℕ) (b v : ℕ) (ls₁ ls₂ ls₃ : List ℕ) (r : Seat) → Child w ws ls b true ls₁ r → ls₂ ≡ appended ls₁ r.count (frame_value ws b) → ls₃ ≡ appended ls₂ (r.count + 1) v
-    → Concluded w ws ls b v ls₃ (Eval r.function r.node (r.count + 2))
+    → Concluded w ws ls b v ls₃ (Eval (record { function = r.function; node = r.node; count = r.count + 2 }))
 concluded w ws ls b v ls₁ ls₂ ls₃ r c x y =
     let k : r.count ≡ frame_count ws b = ap (λ (z : Seat). z.count) c.seat in
     record {
-      is = ap (λ (z : Seat). Eval z.function z.node (z.count + 2)) c.seat;
+      is = ap (λ (z : Seat). Eval (record { function = z.function; node = z.node; count = z.count + 2 })) c.seat;
       locals = rw (y, x, c.locals, k);
     }
 

@@ -5,12 +5,12 @@ use Rattle.moves.proofs.joined.Goals as goal
 
 pub joined-whole-requires : goal.joined-whole-requires
 joined-whole-requires c =
-    rw (c.before_of-before.ensures, c.left_of-left.ensures) (join_fits _ _ _ _ _ _ _ c.args.kind c.requires.0 c.requires.1)
+    rw (c.before_of-before.ensures, c.left_of-left.ensures) (join_fits _ _ _ _ _ _ _ _ c.requires.0 c.requires.1)
 
 pub body-control-requires : goal.body-control-requires
 body-control-requires c =
-    (sitting _ _ _ _ _ _ _ c.args.kind c.requires.0, both_few _ _ _ _ _ _ _ c.args.kind c.requires.0 c.requires.1)
+    (sitting _ _ _ _ _ _ _ _ c.requires.0, both_few _ _ _ _ _ _ _ _ c.requires.0 c.requires.1)
 
 pub returns : goal.returns
 returns c =
-    (stepped_join _ _ _ _ _ _ _ c.args.kind c.requires.0 c.requires.1 _ _ c.body-control.ensures _ (rw (c.before_of-before.ensures, c.left_of-left.ensures) at c.joined-whole.ensures) _ c.restart.ensures, restarts_go c.args.s _ _ _ _ _ c.restart.ensures)
+    (stepped_join _ _ _ _ _ _ _ _ c.requires.0 c.requires.1 _ _ c.body-control.ensures _ (rw (c.before_of-before.ensures, c.left_of-left.ensures) at c.joined-whole.ensures) _ c.restart.ensures, restarts_go c.args.s _ _ _ _ _ c.restart.ensures)
