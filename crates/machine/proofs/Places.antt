@@ -129,7 +129,7 @@ module _ (w ws ws' : List ℕ) (table : WellFormed w) (long : length ws' ≡ len
   awaits_alike ls plan g pause.Promotion a = a
   awaits_alike ls plan g (pause.Fork seat) a = (calm_alike a.0, a.1, a.2, a.3)
   awaits_alike ls plan g (pause.Turn v top) a = returning_alike a
-  awaits_alike ls plan g (pause.Join v top kind) a = (returning_alike a.0, a.1)
+  awaits_alike ls plan g (pause.Join v top) a = rw (← kind_alike top) (returning_alike a.0, a.1)
 
 -- A MARK leaves words that are alike
 module _ {ws graph : List ℕ} {n made : ℕ} {event : Event} {ws' graph' : List ℕ} {r : ℕ} (x : Marked ws graph n made event ws' graph' r) where

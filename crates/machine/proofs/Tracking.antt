@@ -459,8 +459,8 @@ module _ {w arguments : List ℕ} {size : ℕ} {plan : Plan} {ws ls : List ℕ} 
   framed_of (pause.Fork seat) a not fits h = omega arith
   framed_of (pause.Turn v top) a not fits h =
       (omega (arith, roomy, a.depth), turn_placed w ws ls size plan g lent n r.starts t.at t.over v top a (t.tracks h))
-  framed_of (pause.Join v top kind) a not fits h =
-      let x = join_placed w ws ls size plan g lent n r.starts t.at t.over v top kind a.0 a.1 (t.tracks h) in
+  framed_of (pause.Join v top) a not fits h =
+      let x = join_placed w ws ls size plan g lent n r.starts t.at t.over v top _ a.0 a.1 (t.tracks h) in
       (omega (arith, roomy, a.0.depth), x.0, x.1)
 
   pub free_markable : (p : Pause) → Awaits w ws ls plan g p → (p ≡ pause.Limit → ⊥) → Fits ws g p → 0 < length lent → Markable ws n (full g).credits.0 (event_of g p)

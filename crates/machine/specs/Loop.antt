@@ -52,7 +52,7 @@ event_of g Limit = event.Fork 0
 event_of g Promotion = event.Fork g.oldest
 event_of g (Fork seat) = event.Fork g.depth
 event_of g (Turn v top) = event.Turn top
-event_of g (Join v top kind) = event.Join top
+event_of g (Join v top) = event.Join top
 
 -- a frame is free for a fork that is promoted at its birth
 unfoldable pub Fits : List ℕ → Compact → Pause → Type 0
@@ -60,7 +60,7 @@ Fits ws g Limit = Unit {0}
 Fits ws g Promotion = Unit {0}
 Fits ws g (Fork seat) = g.depth < length ws / 32
 Fits ws g (Turn v top) = Unit {0}
-Fits ws g (Join v top kind) = Unit {0}
+Fits ws g (Join v top) = Unit {0}
 
 -- what a free move's words ask for, beside a buffer that has some
 abbrev pub MarkableAt : (ws graph : List ℕ) (g : Compact) (n : ℕ) → Event → Type 0

@@ -23,7 +23,7 @@ use Rattle.machine.specs.Workspace.{left_by}
 -- the registers at a run's start: function 0's root, with so many arguments, and no frame
 abbrev pub begun : ℕ → Registers
 begun count = record {
-  control = Eval 0 0 count;
+  control = Eval (record { function = 0; node = 0; count = count });
   depth = 0;
   oldest = 4096;
   credits = record { 0 = 0 };

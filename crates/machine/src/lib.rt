@@ -94,7 +94,11 @@ fn begin(plan: Plan, count: usize) -> Compact
     let fuel = plan.fuel;
     let before = Span::none();
     Compact {
-        control: Control::Eval(0, 0, count),
+        control: Control::Eval(Seat {
+            function: 0,
+            node: 0,
+            count,
+        }),
         depth: 0,
         oldest: moves::NO_FORK,
         transitions: 0,
@@ -246,13 +250,12 @@ fn joined(
     n: usize,
     v: u64,
     top: usize,
-    kind: u64,
 ) -> Moved
-    requires { (Starts job.words.now ws.old locals.old plan g) × (Awaits job.words.now ws.old locals.old plan g (Pause.Join v top kind)) × (MarkableAt ws.old graph.old g n (Event.Join top)) }
+    requires { (Starts job.words.now ws.old locals.old plan g) × (Awaits job.words.now ws.old locals.old plan g (Pause.Join v top)) × (MarkableAt ws.old graph.old g n (Event.Join top)) }
     ensures { Moves job.entry.words.now ws.old locals.old graph.old plan g n (Event.Join top) ws.new locals.new graph.new result }
 {
     let more = marks::join(ws, graph, n, g.transitions - g.since, top);
-    let step = strides::join(job, ws, locals, plan, g, v, top, kind);
+    let step = strides::join(job, ws, locals, plan, g, v, top);
     Moved { step, words: more }
 }
 
@@ -274,7 +277,7 @@ fn free(
         Pause::Promotion => promoted(job.words, ws, locals, graph, plan, g, n),
         Pause::Fork(seat) => forked(job.words, ws, locals, graph, plan, g, n, seat),
         Pause::Turn(v, top) => turned(job, ws, locals, graph, plan, g, n, v, top),
-        Pause::Join(v, top, kind) => joined(job, ws, locals, graph, plan, g, n, v, top, kind),
+        Pause::Join(v, top) => joined(job, ws, locals, graph, plan, g, n, v, top),
         Pause::Limit => Moved {
             step: Progress::Paused(pause),
             words: n,

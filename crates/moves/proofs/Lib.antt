@@ -1,4 +1,5 @@
 -- Laws about the words and the moves.
+pub mod FrameKinds
 pub mod Nodes
 pub mod Frames
 pub mod Stacks

@@ -132,7 +132,7 @@ module _ {w ws ls : List ℕ} {plan : Plan} {s : Registers} {v t kind : ℕ} (q 
     child_locals : Loaded ws (locals_word (32 * t)) (frame_count ws (32 * t)) ls'
     child_locals = frame_locals_lem w ws ls (32 * t) sitting ls' h.locals
 
-    child_code : control_of (Eval seat.function seat.node seat.count) ls' ≡ evaluate (at code (cond last (third w code) (second w code)) code.locals)
+    child_code : control_of (Eval seat) ls' ≡ evaluate (at code (cond last (third w code) (second w code)) code.locals)
     unfolding control_of
     child_code = rw (h.seat, child_locals.are)
 
@@ -147,7 +147,7 @@ module _ {w ws ls : List ℕ} {plan : Plan} {s : Registers} {v t kind : ℕ} (q 
     turned_below : (stack_of ws t ≡ stack_of ws' t) × Held w ws' t
     turned_below = same_slots w ws ws' r.kept.table long t (sym turned_words.below) (omega (arith, room)) rest
 
-    turned_code : control_of (Eval seat.function seat.node seat.count) ls' ≡ evaluate (at code (second w code) code.locals)
+    turned_code : control_of (Eval seat) ls' ≡ evaluate (at code (second w code) code.locals)
     unfolding control_of
     turned_code = rw (h.seat, turned_locals.are, turned_words.is_function, turned_words.is_node, turned_words.is_count, turned_words.above)
 
@@ -159,7 +159,7 @@ module _ {w ws ls : List ℕ} {plan : Plan} {s : Registers} {v t kind : ℕ} (q 
 
     turned_kept : (o : ℕ) → Fitting w kind' (frame_function ws (32 * t)) (frame_node ws (32 * t)) (frame_count ws (32 * t)) v
         → Stands w (frame_function ws (32 * t)) (second w code) (frame_count ws (32 * t)) → Oldest ws' (t + 1) o → (plan.birth ≡ true → o ≡ 4096)
-        → Kept w ws' ls' plan.birth (Eval seat.function seat.node seat.count) (t + 1) o
+        → Kept w ws' ls' plan.birth (Eval seat) (t + 1) o
     unfolding Controlled
     turned_kept o ok child old bo = record {
       table = r.kept.table;
@@ -212,7 +212,7 @@ late_tag kind h = let k : 5 ≤ kind = omega arith in get_or-eq_default (2 ∷ 2
 module _ {w ws ls : List ℕ} {plan : Plan} {s : Registers} {v t : ℕ} where
   -- a left operand, or a left value: the frame turns
   pub stepped_left_operand : (q : Returns w ws ls plan s v t 0) → Paid plan s → (ws' ls' : List ℕ) (seat : Seat) → length ws' ≡ length ws → ws' ≡ turned ws (32 * t) 1 v 0 → Child w ws' ls (32 * t) false ls' seat
-      → (n : Registers) → n ≡ ticked s (Eval seat.function seat.node seat.count) (t + 1) s.oldest → Stepped w ws ls plan s ws' ls' (Go n)
+      → (n : Registers) → n ≡ ticked s (Eval seat) (t + 1) s.oldest → Stepped w ws ls plan s ws' ls' (Go n)
   unfolding slot_of arrive result_of KeptBy
   stepped_left_operand q paid ws' ls' seat long u h n e =
       let tag = tag_here q in
@@ -227,7 +227,7 @@ module _ {w ws ls : List ℕ} {plan : Plan} {s : Registers} {v t : ℕ} where
       })
 
   pub stepped_plain_left : (q : Returns w ws ls plan s v t 5) → Paid plan s → (ws' ls' : List ℕ) (seat : Seat) → length ws' ≡ length ws → ws' ≡ turned ws (32 * t) 6 v 0 → Child w ws' ls (32 * t) false ls' seat
-      → (o : ℕ) → o ≡ oldest_without s.oldest t → (n : Registers) → n ≡ ticked s (Eval seat.function seat.node seat.count) (t + 1) o → Stepped w ws ls plan s ws' ls' (Go n)
+      → (o : ℕ) → o ≡ oldest_without s.oldest t → (n : Registers) → n ≡ ticked s (Eval seat) (t + 1) o → Stepped w ws ls plan s ws' ls' (Go n)
   unfolding slot_of move with_fuel result_of KeptBy
   stepped_plain_left q paid ws' ls' seat long u h o m n e =
       let x = turned_words q 6 0 ws' ls' seat long u h in
@@ -244,7 +244,7 @@ module _ {w ws ls : List ℕ} {plan : Plan} {s : Registers} {v t : ℕ} where
       })
 
   pub stepped_turn : (q : Returns w ws ls plan s v t 7) → (ws' ls' : List ℕ) (seat : Seat) → length ws' ≡ length ws → ws' ≡ turned ws (32 * t) 8 v s.span.0 → Child w ws' ls (32 * t) false ls' seat
-      → (n : Registers) → n ≡ restarted s (Eval seat.function seat.node seat.count) (t + 1) s.oldest 0 s.forks → Stepped w ws ls plan s ws' ls' (Go n)
+      → (n : Registers) → n ≡ restarted s (Eval seat) (t + 1) s.oldest 0 s.forks → Stepped w ws ls plan s ws' ls' (Go n)
   unfolding slot_of move result_of KeptBy
   stepped_turn q ws' ls' seat long u h n e =
       let tag = tag_here q in
@@ -259,11 +259,11 @@ module _ {w ws ls : List ℕ} {plan : Plan} {s : Registers} {v t : ℕ} where
       })
 
   pub stepped_condition : (q : Returns w ws ls plan s v t 2) → Paid plan s → (ls' : List ℕ) (seat : Seat) → Child w ws ls (32 * t) (eqb v 0) ls' seat
-      → (n : Registers) → n ≡ ticked s (Eval seat.function seat.node seat.count) t s.oldest → Stepped w ws ls plan s ws ls' (Go n)
+      → (n : Registers) → n ≡ ticked s (Eval seat) t s.oldest → Stepped w ws ls plan s ws ls' (Go n)
   unfolding slot_of arrive Controlled
   stepped_condition q paid ls' seat h n e =
       let a = choose_in w q.ready.kept.table (top q).stands (tag_here q) in
-      closed q ls' (Eval seat.function seat.node seat.count) _ (child_code q (eqb v 0) ls' seat h) (child_locals q (eqb v 0) ls' seat h).sixteen
+      closed q ls' (Eval seat) _ (child_code q (eqb v 0) ls' seat h) (child_locals q (eqb v 0) ls' seat h).sixteen
       (rw h.seat (either w _ _ _ _ (eqb v 0) a.2 a.1)) (λ x. omega arith) (closes q paid (condition (code_at ws (32 * t))) _ refl) n e
 
   pub binding_few : (q : Returns w ws ls plan s v t 3) → frame_count ws (32 * t) + 1 ≤ 16
@@ -273,14 +273,14 @@ module _ {w ws ls : List ℕ} {plan : Plan} {s : Registers} {v t : ℕ} where
   plain_few q = (both_in w q.ready.kept.table (top q).stands (tag_here q)).0
 
   pub stepped_binding : (q : Returns w ws ls plan s v t 3) → Paid plan s → (ls₁ ls₂ : List ℕ) (seat : Seat) → Child w ws ls (32 * t) false ls₁ seat → ls₂ ≡ appended ls₁ seat.count v
-      → (n : Registers) → n ≡ ticked s (Eval seat.function seat.node (seat.count + 1)) t s.oldest → Stepped w ws ls plan s ws ls₂ (Go n)
+      → (n : Registers) → n ≡ ticked s (Eval (record { function = seat.function; node = seat.node; count = seat.count + 1 })) t s.oldest → Stepped w ws ls plan s ws ls₂ (Go n)
   unfolding slot_of arrive Controlled control_of
   stepped_binding q paid ls₁ ls₂ seat h x n e =
       let l = child_locals q false ls₁ seat h in
       let k : seat.count ≡ frame_count ws (32 * t) = ap (λ (z : Seat). z.count) h.seat in
       let a = is_appended ls₁ ls₂ seat.count v (omega (arith, binding_few q)) l.sixteen x in
       let b = let_in w q.ready.kept.table (top q).stands (tag_here q) in
-      closed q ls₂ (Eval seat.function seat.node (seat.count + 1)) _ (rw (a.are, h.seat, l.are)) a.sixteen
+      closed q ls₂ (Eval (record { function = seat.function; node = seat.node; count = seat.count + 1 })) _ (rw (a.are, h.seat, l.are)) a.sixteen
       (rw h.seat b.2) (λ x. omega arith) (closes q paid (binding (code_at ws (32 * t))) _ refl) n e
 
   -- the body of a fork's node
@@ -355,7 +355,7 @@ module _ {w ws ls : List ℕ} {plan : Plan} {s : Registers} {v t : ℕ} where
         length-append (frame_arguments ws (32 * t)) (v ∷ []) ∙ rw (length-take-le _ _ x, ← is-n)
 
     pub stepped_next_argument : Paid plan s → n + 1 < arity_at w (called_at w ws (32 * t)) → (ws' ls' : List ℕ) (seat : Seat) → length ws' ≡ length ws → ws' ≡ collected ws (32 * t) n v → Child w ws' ls (32 * t) (ltb 1 (n + 1)) ls' seat
-        → (m : Registers) → m ≡ ticked s (Eval seat.function seat.node seat.count) (t + 1) s.oldest → Stepped w ws ls plan s ws' ls' (Go m)
+        → (m : Registers) → m ≡ ticked s (Eval seat) (t + 1) s.oldest → Stepped w ws ls plan s ws' ls' (Go m)
     unfolding slot_of arrive gathered result_of KeptBy Controlled control_of
     stepped_next_argument paid less ws' ls' seat long c h m e =
         let u = is_collected ws ws' (32 * t) (room q) n v few_here c in
@@ -369,7 +369,7 @@ module _ {w ws ls : List ℕ} {plan : Plan} {s : Registers} {v t : ℕ} where
         let kind : frame_kind ws' (32 * t) ≡ 4 = u.is_kind ∙ q.of_kind in
         let slot : slot_at ws' (32 * t) ≡ ordinary (argument caller more) = rw (kind, u.is_function, u.is_node, u.is_count, locals, u.is_value, u.is_arguments, is-n) in
         let stack : stack_of ws' (t + 1) ≡ ordinary (argument caller more) ∷ stack_of ws t = sym (stack_more ws' t) ∙ rw (slot, below.0) in
-        let control : control_of (Eval seat.function seat.node seat.count) ls' ≡ evaluate (at caller (cond (ltb 1 (n + 1)) (third w caller) (second w caller)) caller.locals) =
+        let control : control_of (Eval seat) ls' ≡ evaluate (at caller (cond (ltb 1 (n + 1)) (third w caller) (second w caller)) caller.locals) =
         rw (h.seat, l.are, u.is_function, u.is_node, u.is_count, locals) in
         rw e (record {
           same = returned q
@@ -388,7 +388,7 @@ module _ {w ws ls : List ℕ} {plan : Plan} {s : Registers} {v t : ℕ} where
         })
 
     pub stepped_last_argument : Paid plan s → (g : ℕ) → g ≡ called_at w ws (32 * t) → arity_at w g ≤ n + 1 → (ls₁ ls₂ : List ℕ) → ls₁ ≡ loaded ls ws (arguments_word (32 * t)) n → ls₂ ≡ appended ls₁ n v
-        → (m : Registers) → m ≡ ticked s (Eval g 0 (n + 1)) t s.oldest → Stepped w ws ls plan s ws ls₂ (Go m)
+        → (m : Registers) → m ≡ ticked s (Eval (record { function = g; node = 0; count = n + 1 })) t s.oldest → Stepped w ws ls plan s ws ls₂ (Go m)
     unfolding slot_of arrive gathered Controlled control_of
     stepped_last_argument paid g is-g most ls₁ ls₂ x y m e =
         let l = is_loaded ls ws ls₁ (arguments_word (32 * t)) n (omega (arith, few_here)) (omega (arith, few_here, room q)) q.ready.kept.sixteen x in
@@ -398,8 +398,8 @@ module _ {w ws ls : List ℕ} {plan : Plan} {s : Registers} {v t : ℕ} where
         let more = frame_arguments ws (32 * t) ++ (v ∷ []) in
         let is-arity : arity_at w g ≡ n + 1 = omega (arith, most, rw (← is-g) at awaits_here) in
         let callee : g < functions w = rw is-g (called_in w table fit.stands (tag_here q)) in
-        let control : control_of (Eval g 0 (n + 1)) ls₂ ≡ evaluate (entered (called w caller) more) = rw (a.are, l.are, is-n, is-g) in
-        closed q ls₂ (Eval g 0 (n + 1)) (evaluate (entered (called w caller) more)) control a.sixteen (rw (← is-arity) (enter w table fit.stands g callee)) (λ x. omega arith)
+        let control : control_of (Eval (record { function = g; node = 0; count = n + 1 })) ls₂ ≡ evaluate (entered (called w caller) more) = rw (a.are, l.are, is-n, is-g) in
+        closed q ls₂ (Eval (record { function = g; node = 0; count = n + 1 })) (evaluate (entered (called w caller) more)) control a.sixteen (rw (← is-arity) (enter w table fit.stands g callee)) (λ x. omega arith)
         (closes q paid (argument caller (frame_arguments ws (32 * t))) (evaluate (entered (called w caller) more)) (rw (length_more, le-ltb _ _ (rw is-g at most)))) m e
 
 -- A RIGHT OPERAND

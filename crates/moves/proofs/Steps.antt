@@ -25,12 +25,13 @@ use Rattle.frames.proofs.Writes.{Pushed, is_pushed}
 use Rattle.language.specs.Language.{Code, Frame, left_operand, condition, binding, argument, place, first, next, call, language}
 use Rattle.moves.specs.declared.Control.{Control}
 use Rattle.moves.specs.declared.Control.TheVariants.{Eval, Ret}
+use Rattle.frames.specs.declared.Seat.{Seat}
 use Rattle.moves.specs.declared.Registers.{Registers}
 use Rattle.moves.specs.declared.Plan.{Plan}
 use Rattle.moves.specs.declared.Step.{Step}
 use Rattle.moves.specs.declared.Step.TheVariants.{Go}
 use Rattle.moves.specs.Layout.{slot_of, slot_at, stack_of, control_of, run_counts_of, state_of, result_of, ticked, oldest_with, halted}
-use Rattle.moves.specs.Ready.{Stands, Fitting, Held, Controlled, Oldest, Kept, Ready, KeptBy, Spared, Stepped, Framed, transited, Opened, dry, opens, Forked, forks, OpenedBoth, born, plain}
+use Rattle.moves.specs.Ready.{Stands, Fitting, Held, Controlled, Oldest, Kept, Ready, KeptBy, Spared, Stepped, Framed, first_at, transited, Opened, dry, opens, Forked, forks, OpenedBoth, born, plain}
 use Rattle.moves.proofs.Nodes.{inside, local_in, tag_is, arithmetic_in, choose_in, let_in, both_in, argument_first, enter, called_is, callee}
 use Rattle.moves.proofs.Stacks.{length_stack, stack_more, held_more, same_slots}
 use Rattle.moves.proofs.OldestFork.{oldest_other, oldest_with_lem}
@@ -79,7 +80,16 @@ module _ (w ws ls : List ℕ) (plan : Plan) (s : Registers) (r : Ready w ws ls p
   gone c S t ws' ls' next a b d e f = rw (a, b, d, e, f)
 
   -- A NODE IS EVALUATED
-  module _ (f p k : ℕ) (e : s.control ≡ Eval f p k) where
+  module _ (seat : Seat) (e : s.control ≡ Eval seat) where
+    abbrev f : ℕ
+    f = seat.function
+
+    abbrev p : ℕ
+    p = seat.node
+
+    abbrev k : ℕ
+    k = seat.count
+
     pub here : Stands w f p k
     unfolding Controlled
     here = rw e at r.kept.control
@@ -100,7 +110,7 @@ module _ (w ws ls : List ℕ) (plan : Plan) (s : Registers) (r : Ready w ws ls p
     evaluates = rw e
 
     -- a frame can be written here
-    pub framed : Framed ws ls s (record { function = f; node = p; count = k })
+    pub framed : Framed ws ls s seat
     framed = record {
       room = r.kept.room;
       frames = r.limits.frames;
@@ -135,7 +145,7 @@ module _ (w ws ls : List ℕ) (plan : Plan) (s : Registers) (r : Ready w ws ls p
         on (stuck j) i = rw (le-ltb s.transitions plan.fuel.0 spent)
 
     -- no frame is opened
-    stepped_transit : (c : Control) (o : Step) → next w code (node_at w (start_of w f) p) ≡ go_on (control_of c ls) → Controlled w c → o ≡ transited plan s (record { function = f; node = p; count = k }) c
+    stepped_transit : (c : Control) (o : Step) → next w code (node_at w (start_of w f) p) ≡ go_on (control_of c ls) → Controlled w c → o ≡ transited plan s seat c
         → Stepped w ws ls plan s ws ls o
     unfolding evaluated with_fuel result_of KeptBy
     stepped_transit c o n h u = rw u (record { same = evaluates ∙ rw n (same (ltb s.transitions plan.fuel.0)); kept = keeps (ltb s.transitions plan.fuel.0); spared = spared_same ws })
@@ -149,19 +159,19 @@ module _ (w ws ls : List ℕ) (plan : Plan) (s : Registers) (r : Ready w ws ls p
         keeps true = record { table = r.kept.table; sixteen = r.kept.sixteen; room = r.kept.room; held = r.kept.held; control = h; oldest = r.kept.oldest; born = r.kept.born }
         keeps false = tt
 
-    pub stepped_constant : (v : ℕ) (o : Step) → node_at w (start_of w f) p ≡ Constant v → o ≡ transited plan s (record { function = f; node = p; count = k }) (Ret v) → Stepped w ws ls plan s ws ls o
+    pub stepped_constant : (v : ℕ) (o : Step) → node_at w (start_of w f) p ≡ Constant v → o ≡ transited plan s seat (Ret v) → Stepped w ws ls plan s ws ls o
     unfolding next control_of Controlled
     stepped_constant v o n u = stepped_transit (Ret v) o (rw n) tt u
 
-    pub stepped_local : (slot : ℕ) (o : Step) → node_at w (start_of w f) p ≡ Local slot → o ≡ transited plan s (record { function = f; node = p; count = k }) (Ret (get_or ls slot 0)) → Stepped w ws ls plan s ws ls o
+    pub stepped_local : (slot : ℕ) (o : Step) → node_at w (start_of w f) p ≡ Local slot → o ≡ transited plan s seat (Ret (get_or ls slot 0)) → Stepped w ws ls plan s ws ls o
     unfolding next control_of Controlled
     stepped_local slot o n u =
         let h : slot < k = local_in w r.kept.table here slot n in
         stepped_transit (Ret (get_or ls slot 0)) o (rw (n, get_or-take k ls slot 0 h)) tt u
 
-    pub stepped_enter : (g b c : ℕ) (o : Step) → node_at w (start_of w f) p ≡ Call g b c → arity_at w g ≡ 0 → o ≡ transited plan s (record { function = f; node = p; count = k }) (Eval g 0 0) → Stepped w ws ls plan s ws ls o
+    pub stepped_enter : (g b c : ℕ) (o : Step) → node_at w (start_of w f) p ≡ Call g b c → arity_at w g ≡ 0 → o ≡ transited plan s seat (Eval (record { function = g; node = 0; count = 0 })) → Stepped w ws ls plan s ws ls o
     unfolding next call control_of Controlled
-    stepped_enter g b c o n a u = stepped_transit (Eval g 0 0) o (rw (n, a)) (rw a at (enter w r.kept.table here g (callee w r.kept.table here g b c n))) u
+    stepped_enter g b c o n a u = stepped_transit (Eval (record { function = g; node = 0; count = 0 })) o (rw (n, a)) (rw a at (enter w r.kept.table here g (callee w r.kept.table here g b c n))) u
 
     -- a frame is opened
     opened : (ws' : List ℕ) (kind g : ℕ) → s.depth < cap → ws' ≡ pushed ws (32 * s.depth) kind f p k ls g → Pushed ws ws' (32 * s.depth) kind f p k ls g
@@ -178,7 +188,7 @@ module _ (w ws ls : List ℕ) (plan : Plan) (s : Registers) (r : Ready w ws ls p
       pushed_stack : (x : Slot ℕ Frame Code) → slot_of kind code 0 [] g (frame_left ws' (32 * s.depth)) ≡ x → stack_of ws' (s.depth + 1) ≡ x ∷ stack_of ws s.depth
       pushed_stack x q = sym (stack_more ws' s.depth) ∙ rw (pushed_slot ws ws' s.depth kind f p k ls g u, q, below.0)
 
-      pushed_kept : Kept w ws' ls plan.birth (Eval f (p + 1) k) (s.depth + 1) o'
+      pushed_kept : Kept w ws' ls plan.birth (Eval (first_at seat)) (s.depth + 1) o'
       unfolding Controlled
       pushed_kept = record {
         table = r.kept.table;
@@ -193,7 +203,7 @@ module _ (w ws ls : List ℕ) (plan : Plan) (s : Registers) (r : Ready w ws ls p
     -- an ordinary frame, of a kind below 5
     stepped_frame : (ws' : List ℕ) → length ws' ≡ length ws → (kind : ℕ) → kind < 5 → (fr : Frame) → ((l : ℕ) → slot_of kind code 0 [] 0 l ≡ ordinary fr)
         → next w code (node_at w (start_of w f) p) ≡ open_frame fr (first code) → Fitting w kind f p k 0 → Stands w f (p + 1) k
-        → (o : Step) → Opened ws ws' ls plan s (record { function = f; node = p; count = k }) kind s.oldest o → Stepped w ws ls plan s ws' ls o
+        → (o : Step) → Opened ws ws' ls plan s seat kind s.oldest o → Stepped w ws ls plan s ws' ls o
     unfolding evaluated with_fuel with_frame result_of KeptBy control_of
     stepped_frame ws' long kind small fr q n ok child o (dry h c d) = rw (c, d) (record { same = evaluates ∙ rw (n, le-ltb _ _ h); kept = tt; spared = spared_same ws })
     stepped_frame ws' long kind small fr q n ok child o (Opened.full h i c d) = rw (c, d) (record { same = evaluates ∙ rw (n, lt-ltb _ _ h, length_stack ws s.depth, le-ltb _ _ i); kept = tt; spared = spared_same ws })
@@ -208,25 +218,25 @@ module _ (w ws ls : List ℕ) (plan : Plan) (s : Registers) (r : Ready w ws ls p
         })
 
     module _ (ws' : List ℕ) (long : length ws' ≡ length ws) (o : Step) where
-      pub stepped_arithmetic : (x : Operation) (b : ℕ) → node_at w (start_of w f) p ≡ Arithmetic x b → Opened ws ws' ls plan s (record { function = f; node = p; count = k }) 0 s.oldest o → Stepped w ws ls plan s ws' ls o
+      pub stepped_arithmetic : (x : Operation) (b : ℕ) → node_at w (start_of w f) p ≡ Arithmetic x b → Opened ws ws' ls plan s seat 0 s.oldest o → Stepped w ws ls plan s ws' ls o
       unfolding next slot_of tag_for
       stepped_arithmetic x b n u =
           let t : tag_at w (start_of w f) p ≡ 2 = tag_is w r.kept.table here ∙ ap tag_for n in
           stepped_frame ws' long 0 (omega arith) (left_operand code) (λ l. refl) (rw n) (record { stands = here; tag = t; awaits = λ y. absurd (omega arith) }) (arithmetic_in w r.kept.table here t).0 o u
 
-      pub stepped_choose : (b c : ℕ) → node_at w (start_of w f) p ≡ Choose b c → Opened ws ws' ls plan s (record { function = f; node = p; count = k }) 2 s.oldest o → Stepped w ws ls plan s ws' ls o
+      pub stepped_choose : (b c : ℕ) → node_at w (start_of w f) p ≡ Choose b c → Opened ws ws' ls plan s seat 2 s.oldest o → Stepped w ws ls plan s ws' ls o
       unfolding next slot_of tag_for
       stepped_choose b c n u =
           let t : tag_at w (start_of w f) p ≡ 3 = tag_is w r.kept.table here ∙ ap tag_for n in
           stepped_frame ws' long 2 (omega arith) (condition code) (λ l. refl) (rw n) (record { stands = here; tag = t; awaits = λ y. absurd (omega arith) }) (choose_in w r.kept.table here t).0 o u
 
-      pub stepped_let : (b : ℕ) → node_at w (start_of w f) p ≡ Let b → Opened ws ws' ls plan s (record { function = f; node = p; count = k }) 3 s.oldest o → Stepped w ws ls plan s ws' ls o
+      pub stepped_let : (b : ℕ) → node_at w (start_of w f) p ≡ Let b → Opened ws ws' ls plan s seat 3 s.oldest o → Stepped w ws ls plan s ws' ls o
       unfolding next slot_of tag_for
       stepped_let b n u =
           let t : tag_at w (start_of w f) p ≡ 4 = tag_is w r.kept.table here ∙ ap tag_for n in
           stepped_frame ws' long 3 (omega arith) (binding code) (λ l. refl) (rw n) (record { stands = here; tag = t; awaits = λ y. absurd (omega arith) }) (let_in w r.kept.table here t).1 o u
 
-      pub stepped_call : (g b c : ℕ) → node_at w (start_of w f) p ≡ Call g b c → (arity_at w g ≡ 0 → ⊥) → Opened ws ws' ls plan s (record { function = f; node = p; count = k }) 4 s.oldest o → Stepped w ws ls plan s ws' ls o
+      pub stepped_call : (g b c : ℕ) → node_at w (start_of w f) p ≡ Call g b c → (arity_at w g ≡ 0 → ⊥) → Opened ws ws' ls plan s seat 4 s.oldest o → Stepped w ws ls plan s ws' ls o
       unfolding next slot_of call
       stepped_call g b c n a u =
           let x = called_is w r.kept.table here g b c n in
@@ -237,7 +247,7 @@ module _ (w ws ls : List ℕ) (plan : Plan) (s : Registers) (r : Ready w ws ls p
           more zero h = absurd (h refl)
           more (suc m) h = refl
 
-      pub stepped_both : (b c : ℕ) → node_at w (start_of w f) p ≡ Both b c → OpenedBoth ws ws' ls plan s (record { function = f; node = p; count = k }) o → Stepped w ws ls plan s ws' ls o
+      pub stepped_both : (b c : ℕ) → node_at w (start_of w f) p ≡ Both b c → OpenedBoth ws ws' ls plan s seat o → Stepped w ws ls plan s ws' ls o
       unfolding next slot_of tag_for evaluated with_fuel with_frame result_of KeptBy control_of
       stepped_both b c n (born x (Forked.full h q d)) = rw (q, d) (record { same = evaluates ∙ rw (n, x, length_stack ws s.depth, le-ltb _ _ h); kept = tt; spared = spared_same ws })
       stepped_both b c n (born x (forks h e d)) =

@@ -9,6 +9,8 @@ use Rattle.schedule.specs.Machine.{RunCounts}
 use Rattle.frames.specs.Frames.{frame_kind, frame_function, frame_node, frame_value, frame_before, frame_left, frame_locals, frame_arguments}
 use Rattle.moves.specs.declared.Control.{Control}
 use Rattle.moves.specs.declared.Control.TheVariants.{Eval, Ret}
+use Rattle.moves.specs.declared.kind.Kind.{Kind}
+use Rattle.moves.specs.declared.kind.Kind.TheVariants.{LeftOperand, RightOperand, Condition, Binding, Argument, PlainLeft, PlainRight, PromotedLeft, PromotedRight}
 use Rattle.moves.specs.declared.Registers.{Registers}
 use Rattle.moves.specs.declared.Step.{Step}
 use Rattle.moves.specs.declared.Step.TheVariants.{Go, Value, Halt}
@@ -16,6 +18,24 @@ use Rattle.language.specs.Language.{Code, Frame, left_operand, right_operand, co
 
 abbrev pub code_at : List ℕ → ℕ → Code
 code_at ws b = record { function = frame_function ws b; node = frame_node ws b; locals = frame_locals ws b }
+
+-- a kind's word, and the kind that a word tells: any above 7 tells the last
+abbrev pub word_of : Kind → ℕ
+word_of LeftOperand = 0
+word_of RightOperand = 1
+word_of Condition = 2
+word_of Binding = 3
+word_of Argument = 4
+word_of PlainLeft = 5
+word_of PlainRight = 6
+word_of PromotedLeft = 7
+word_of PromotedRight = 8
+
+abbrev pub kinds : List Kind
+kinds = LeftOperand ∷ RightOperand ∷ Condition ∷ Binding ∷ Argument ∷ PlainLeft ∷ PlainRight ∷ PromotedLeft ∷ []
+
+unfoldable pub kind_of : ℕ → Kind
+kind_of word = get_or kinds word PromotedRight
 
 -- the slots by kind, 0 to 7; any other kind is a promoted fork that awaits its right value
 abbrev pub slots : Code → ℕ → List ℕ → ℕ → List (Slot ℕ Frame Code)
@@ -42,7 +62,7 @@ stack_of ws zero = []
 stack_of ws (suc d) = slot_at ws (32 * d) ∷ stack_of ws d
 
 unfoldable pub control_of : Control → List ℕ → FlatControl Code
-control_of (Eval f p k) ls = evaluate (record { function = f; node = p; locals = take k ls })
+control_of (Eval seat) ls = evaluate (record { function = seat.function; node = seat.node; locals = take seat.count ls })
 control_of (Ret v) ls = return v
 
 abbrev pub run_counts_of : Registers → RunCounts

@@ -48,7 +48,7 @@ Held w ws zero = Unit {0}
 Held w ws (suc d) = FittingAt w ws (32 * d) × Held w ws d
 
 unfoldable pub Controlled : List ℕ → Control → Type 0
-Controlled w (Eval f p k) = Stands w f p k
+Controlled w (Eval seat) = Stands w seat.function seat.node seat.count
 Controlled w (Ret v) = Unit {0}
 
 -- THE OLDEST PLAIN FORK that awaits its left (kind 5): none lies below `oldest`; at `oldest` there is one, or it is 4096 and there is none;
@@ -137,6 +137,10 @@ pub record Framed (ws ls : List ℕ) (s : Registers) (seat : Seat) : Type 0 wher
   pub transitions : s.transitions < 2 ^ 60
   pub forks : s.forks < 2 ^ 60
 
+-- a node's first child
+abbrev pub first_at : Seat → Seat
+first_at seat = record { function = seat.function; node = seat.node + 1; count = seat.count }
+
 -- a transition that opens no frame: fuel is looked for
 abbrev pub transited : Plan → Registers → Seat → Control → Step
 transited plan s seat c = cond (ltb s.transitions plan.fuel.0) (Go (ticked s c s.depth s.oldest)) (halted 20 seat.function seat.node)
@@ -146,13 +150,13 @@ pub data Opened (ws ws' ls : List ℕ) (plan : Plan) (s : Registers) (seat : Sea
   dry : plan.fuel.0 ≤ s.transitions → ws' ≡ ws → r ≡ halted 20 seat.function seat.node → Opened ws ws' ls plan s seat kind oldest r
   full : s.transitions < plan.fuel.0 → length ws / 32 ≤ s.depth → ws' ≡ ws → r ≡ halted 21 seat.function seat.node → Opened ws ws' ls plan s seat kind oldest r
   opens : s.transitions < plan.fuel.0 → s.depth < length ws / 32 → ws' ≡ pushed ws (32 * s.depth) kind seat.function seat.node seat.count ls 0
-      → r ≡ Go (ticked (risen s) (Eval seat.function (seat.node + 1) seat.count) (s.depth + 1) oldest) → Opened ws ws' ls plan s seat kind oldest r
+      → r ≡ Go (ticked (risen s) (Eval (first_at seat)) (s.depth + 1) oldest) → Opened ws ws' ls plan s seat kind oldest r
 
 -- a fork that is promoted at its birth: a free frame
 pub data Forked (ws ws' ls : List ℕ) (s : Registers) (seat : Seat) (r : Step) : Type 0 where
   full : length ws / 32 ≤ s.depth → ws' ≡ ws → r ≡ halted 21 seat.function seat.node → Forked ws ws' ls s seat r
   forks : s.depth < length ws / 32 → ws' ≡ pushed ws (32 * s.depth) 7 seat.function seat.node seat.count ls s.span.0
-      → r ≡ Go (restarted (risen s) (Eval seat.function (seat.node + 1) seat.count) (s.depth + 1) s.oldest 0 (s.forks + 1)) → Forked ws ws' ls s seat r
+      → r ≡ Go (restarted (risen s) (Eval (first_at seat)) (s.depth + 1) s.oldest 0 (s.forks + 1)) → Forked ws ws' ls s seat r
 
 pub data OpenedBoth (ws ws' ls : List ℕ) (plan : Plan) (s : Registers) (seat : Seat) (r : Step) : Type 0 where
   born : plan.birth ≡ true → Forked ws ws' ls s seat r → OpenedBoth ws ws' ls plan s seat r
@@ -180,7 +184,11 @@ pub record Child (w ws ls : List ℕ) (b : ℕ) (last : Bool) (ls' : List ℕ) (
 
 -- the body of a fork's node: its third child, with the left's value and the right's added
 pub record Concluded (w ws ls : List ℕ) (b v : ℕ) (ls' : List ℕ) (r : Control) : Type 0 where
-  pub is : r ≡ Eval (frame_function ws b) (c_at w (start_of w (frame_function ws b)) (frame_node ws b)) (frame_count ws b + 2)
+  pub is : r ≡ Eval (record {
+    function = frame_function ws b;
+    node = c_at w (start_of w (frame_function ws b)) (frame_node ws b);
+    count = frame_count ws b + 2;
+  })
   pub locals : ls' ≡ appended (appended (locals_at ls ws b) (frame_count ws b) (frame_value ws b)) (frame_count ws b + 1) v
 
 -- the next plain fork from a place on, upward

@@ -5,43 +5,27 @@
 ghost use Rattle.std.specs.Prelude.{◌≡◌, false, ◌&&◌, ◌+◌, ◌*◌, ◌/◌, ◌<◌, ◌≤◌, ◌^◌, max, length, ltb, leb};
 ghost use Rattle.table.specs.Words.{arity_at};
 ghost use Rattle.frames.specs.Frames.{frame_kind, frame_count, frame_value};
-ghost use Rattle.moves.specs.Layout.{ticked, restarted, risen, oldest_with, oldest_without, halted};
+ghost use Rattle.moves.specs.Layout.{word_of, kind_of, ticked, restarted, risen, oldest_with, oldest_without, halted};
 ghost use Rattle.moves.specs.Ready.{Returns, Paid, Stepped, Ticks, Restarts, Framed, Opened, Forked, OpenedBoth, Sitting, Child, Operand, operation, Resumed, called_at, Concluded, Found, Promoted};
 
 mod job;
+mod kind;
 
 use frames::Seat;
 pub use job::Job;
+pub use kind::Kind;
 use schedule::{Credits, Fuel, Span};
 use table::Node;
 
-// The kinds of frames: an arithmetic that awaits its left or its right operand, a choose, a let, a call; a plain fork that awaits its left or
-// its right value, and a promoted one.
-pub const LEFT_OPERAND: u64 = 0;
-
-pub const RIGHT_OPERAND: u64 = 1;
-
-pub const CONDITION: u64 = 2;
-
-pub const BINDING: u64 = 3;
-
-pub const ARGUMENT: u64 = 4;
-
-pub const PLAIN_LEFT: u64 = 5;
-
-pub const PLAIN_RIGHT: u64 = 6;
-
-pub const PROMOTED_LEFT: u64 = 7;
-
-pub const PROMOTED_RIGHT: u64 = 8;
-
 // No plain fork: above every depth.
+// Kept: no plainer, because above every depth it makes `oldest < depth` and `oldest.min(depth)` whole answers; an Option would be matched before
+// each, and is a word more in the registers, which every stride copies.
 pub const NO_FORK: usize = 4096;
 
-// A node of a function with its number of locals, or a value that returns.
+// A node is evaluated, or a value returns.
 #[derive(Clone, Copy)]
 pub enum Control {
-    Eval(usize, usize, usize),
+    Eval(Seat),
     Ret(u64),
 }
 
@@ -152,23 +136,21 @@ pub fn open(
     plan: Plan,
     s: Registers,
     seat: Seat,
-    kind: u64,
+    kind: Kind,
     oldest: usize,
 ) -> Step
     requires { (Framed ws.old locals.now s seat) × (Paid plan s) }
-    ensures { Opened ws.old ws.new locals.now plan s seat kind oldest result }
+    ensures { Opened ws.old ws.new locals.now plan s seat (word_of kind) oldest result }
 {
-    let f = seat.function;
-    let p = seat.node;
-    let k = seat.count;
     if s.depth < ws.len() / frames::WORDS {
         let b = frames::WORDS * s.depth;
-        frames::push(ws, b, kind, seat, locals, Span::none());
+        frames::push(ws, b, kind.into(), seat, locals, Span::none());
         let up = rise(s);
-        let first = p + 1;
-        Step::Go(tick(up, Control::Eval(f, first, k), s.depth + 1, oldest))
+        let node = seat.node + 1;
+        let first = Control::Eval(Seat { node, ..seat });
+        Step::Go(tick(up, first, s.depth + 1, oldest))
     } else {
-        halt(21, f, p)
+        halt(21, seat.function, seat.node)
     }
 }
 
@@ -178,25 +160,16 @@ pub fn fork(ws: &mut [u64], locals: &[u64], s: Registers, seat: Seat) -> Step
     ensures { Forked ws.old ws.new locals.now s seat result }
 {
     let depth = s.depth;
-    let f = seat.function;
-    let p = seat.node;
-    let k = seat.count;
     let span = s.span;
     if depth < ws.len() / frames::WORDS {
         let b = frames::WORDS * depth;
-        frames::push(ws, b, PROMOTED_LEFT, seat, locals, span);
+        frames::push(ws, b, Kind::PromotedLeft.into(), seat, locals, span);
         let up = rise(s);
-        let first = p + 1;
-        Step::Go(restart(
-            up,
-            Control::Eval(f, first, k),
-            depth + 1,
-            s.oldest,
-            Span::none(),
-            s.forks + 1,
-        ))
+        let node = seat.node + 1;
+        let first = Control::Eval(Seat { node, ..seat });
+        Step::Go(restart(up, first, depth + 1, s.oldest, Span::none(), s.forks + 1))
     } else {
-        halt(21, f, p)
+        halt(21, seat.function, seat.node)
     }
 }
 
@@ -220,7 +193,7 @@ pub fn evaluate_both(ws: &mut [u64], locals: &[u64], plan: Plan, s: Registers, s
     ensures { OpenedBoth ws.old ws.new locals.now plan s seat result }
 {
     let oldest = oldest_with(s.oldest, s.depth);
-    open(ws, locals, plan, s, seat, PLAIN_LEFT, oldest)
+    open(ws, locals, plan, s, seat, Kind::PlainLeft, oldest)
 }
 
 // The second child of the node of the frame at b, or its third, with the frame's locals.
@@ -253,14 +226,9 @@ pub fn ret_left_operand(
     ensures { (Stepped job.entry.words.now ws.old locals.old plan s ws.new locals.new result) × (Ticks s result) }
 {
     let b = frames::WORDS * top;
-    frames::turn(ws, b, RIGHT_OPERAND, v, Span::none());
+    frames::turn(ws, b, Kind::RightOperand.into(), v, Span::none());
     let seat = child(job, ws, locals, b, false);
-    Step::Go(tick(
-        s,
-        Control::Eval(seat.function, seat.node, seat.count),
-        top + 1,
-        s.oldest,
-    ))
+    Step::Go(tick(s, Control::Eval(seat), top + 1, s.oldest))
 }
 
 // What the operation of the arithmetic frame at b gives on its left operand and v.
@@ -326,12 +294,7 @@ pub fn ret_condition(
     ensures { (Stepped job.entry.words.now ws.now locals.old plan s ws.now locals.new result) × (Ticks s result) }
 {
     let seat = child(job, ws, locals, frames::WORDS * top, v == 0);
-    Step::Go(tick(
-        s,
-        Control::Eval(seat.function, seat.node, seat.count),
-        top,
-        s.oldest,
-    ))
+    Step::Go(tick(s, Control::Eval(seat), top, s.oldest))
 }
 
 // The first of a let: the second is evaluated with the value added.
@@ -348,14 +311,10 @@ pub fn ret_binding(
     ensures { (Stepped job.entry.words.now ws.now locals.old plan s ws.now locals.new result) × (Ticks s result) }
 {
     let seat = child(job, ws, locals, frames::WORDS * top, false);
-    let count = seat.count;
-    frames::append(locals, count, v);
-    Step::Go(tick(
-        s,
-        Control::Eval(seat.function, seat.node, count + 1),
-        top,
-        s.oldest,
-    ))
+    frames::append(locals, seat.count, v);
+    let count = seat.count + 1;
+    let second = Control::Eval(Seat { count, ..seat });
+    Step::Go(tick(s, second, top, s.oldest))
 }
 
 // An argument that is not the last: the next one is evaluated.
@@ -375,12 +334,7 @@ fn next_argument(
     let b = frames::WORDS * top;
     frames::collect(ws, b, n, v);
     let seat = child(job, ws, locals, b, 1 < n + 1);
-    Step::Go(tick(
-        s,
-        Control::Eval(seat.function, seat.node, seat.count),
-        top + 1,
-        s.oldest,
-    ))
+    Step::Go(tick(s, Control::Eval(seat), top + 1, s.oldest))
 }
 
 // The last argument: the called body is evaluated with just the arguments.
@@ -400,8 +354,12 @@ fn last_argument(
 {
     frames::load_arguments(locals, ws, frames::WORDS * top, n);
     frames::append(locals, n, v);
-    let count = n + 1;
-    Step::Go(tick(s, Control::Eval(g, 0, count), top, s.oldest))
+    let body = Control::Eval(Seat {
+        function: g,
+        node: 0,
+        count: n + 1,
+    });
+    Step::Go(tick(s, body, top, s.oldest))
 }
 
 // An argument of a call.
@@ -442,15 +400,10 @@ pub fn ret_plain_left(
     ensures { Stepped job.entry.words.now ws.old locals.old plan s ws.new locals.new result }
 {
     let b = frames::WORDS * top;
-    frames::turn(ws, b, PLAIN_RIGHT, v, Span::none());
+    frames::turn(ws, b, Kind::PlainRight.into(), v, Span::none());
     let seat = child(job, ws, locals, b, false);
     let oldest = oldest_without(s.oldest, top);
-    Step::Go(tick(
-        s,
-        Control::Eval(seat.function, seat.node, seat.count),
-        top + 1,
-        oldest,
-    ))
+    Step::Go(tick(s, Control::Eval(seat), top + 1, oldest))
 }
 
 // The body of the node of the fork at b, with both values.
@@ -460,10 +413,10 @@ fn body(job: Job, ws: &[u64], locals: &mut [u64], b: usize, v: u64) -> Control
 {
     let left = frames::value_of(ws, b);
     let seat = child(job, ws, locals, b, true);
-    let count = seat.count;
-    frames::append(locals, count, left);
-    frames::append(locals, count + 1, v);
-    Control::Eval(seat.function, seat.node, count + 2)
+    frames::append(locals, seat.count, left);
+    frames::append(locals, seat.count + 1, v);
+    let count = seat.count + 2;
+    Control::Eval(Seat { count, ..seat })
 }
 
 // The right value of a plain fork: its body is evaluated.
@@ -498,11 +451,11 @@ pub fn turned(
 {
     let span = s.span;
     let b = frames::WORDS * top;
-    frames::turn(ws, b, PROMOTED_RIGHT, v, span);
+    frames::turn(ws, b, Kind::PromotedRight.into(), v, span);
     let seat = child(job, ws, locals, b, false);
     Step::Go(restart(
         s,
-        Control::Eval(seat.function, seat.node, seat.count),
+        Control::Eval(seat),
         top + 1,
         s.oldest,
         Span::none(),
@@ -519,9 +472,8 @@ pub fn joined(
     s: Registers,
     v: u64,
     top: usize,
-    kind: u64,
 ) -> Step
-    requires { (Returns job.words.now ws.now locals.old plan s v top kind) × (8 ≤ kind) }
+    requires { (Returns job.words.now ws.now locals.old plan s v top (frame_kind ws.now (32 * top))) × (8 ≤ frame_kind ws.now (32 * top)) }
     ensures { (Stepped job.entry.words.now ws.now locals.old plan s ws.now locals.new result) × (Restarts s result) }
 {
     let b = frames::WORDS * top;
@@ -534,11 +486,11 @@ pub fn joined(
 }
 
 // The kind of frame d.
-pub fn kind_at(ws: &[u64], d: usize) -> u64
+pub fn kind_at(ws: &[u64], d: usize) -> Kind
     requires { 32 * d + 32 ≤ length ws.now }
-    ensures { result ≡ frame_kind ws.now (32 * d) }
+    ensures { result ≡ kind_of (frame_kind ws.now (32 * d)) }
 {
-    frames::kind_of(ws, frames::WORDS * d)
+    Kind::from(frames::kind_of(ws, frames::WORDS * d))
 }
 
 // The next plain fork from a place on, upward.
@@ -547,7 +499,7 @@ fn search(ws: &[u64], from: usize, depth: usize) -> usize
     ensures { Found ws.now from depth result }
 {
     for i in from..depth {
-        if kind_at(ws, i) == PLAIN_LEFT {
+        if kind_at(ws, i) == Kind::PlainLeft {
             return i;
         }
     }
@@ -562,7 +514,7 @@ pub fn promote(ws: &mut [u64], s: Registers) -> Registers
     let at = s.oldest;
     let span = s.span;
     let control = s.control;
-    frames::mark(ws, frames::WORDS * at, PROMOTED_LEFT, span);
+    frames::mark(ws, frames::WORDS * at, Kind::PromotedLeft.into(), span);
     let next = search(ws, at + 1, s.depth);
     restart(s, control, s.depth, next, Span::none(), s.forks + 1)
 }

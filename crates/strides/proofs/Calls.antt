@@ -23,7 +23,7 @@ use Rattle.moves.proofs.Nodes.{called_in, argument_first, argument_later, enter}
 use Rattle.compact.specs.declared.Compact.{Compact}
 use Rattle.compact.specs.Compact.{later_of, Roomy}
 use Rattle.operands.specs.Operands.{cost_at, frames_of, both_of, simple_at, SimpleAt, CostAt}
-use Rattle.strides.specs.Strides.{Tagged, code_of, Jump}
+use Rattle.strides.specs.Strides.{body_of, Tagged, code_of, Jump}
 use Rattle.operands.proofs.Leading.{call_one_leads, call_two_leads, call_three_leads}
 use Rattle.strides.proofs.Forms.{first_word, child_cost, child_simple, child_leads, jump}
 
@@ -97,13 +97,13 @@ module _ {w ls : List ℕ} {g : Compact} {seat : Seat} {start at f : ℕ} (t : T
     first_leads h s = child_leads w ls g seat start at t.site _ (at + 4) k (first_stands h) (first_word w ls g seat start at t.site) cost s x value
 
     pub jump_one : arity_at w f ≡ 1 → {h : ℕ} {ls' : List ℕ} {next : Compact} → h ≡ frames_of k → (0 < k) × Roomy g (k + 2) (h + 1)
-        → ls' ≡ appended ls 0 x → next ≡ later_of g (Eval f 0 1) g.depth (k + 2) → Jump w ls g seat ls' next
+        → ls' ≡ appended ls 0 x → next ≡ later_of g (Eval (body_of f 1)) g.depth (k + 2) → Jump w ls g seat ls' next
     unfolding control_of Controlled
     jump_one n {h} {ls'} {next} eh room u e =
         let a = is_appended ls ls' 0 x (omega arith) t.site.sixteen u in
         let are : take 1 ls' ≡ x ∷ [] = a.are in
         let lead = call_one_leads w seat.function seat.node (take seat.count ls) x k (frames_of k) tag (rw f_is at n) (first_leads (omega arith) room.0) in
-        jump w ls g seat start at t.site ls' next (Eval f 0 1) (k + 2) (h + 1) (omega arith) e room.1 (rw (f_is, eh, are) lead) (entered n) a.sixteen
+        jump w ls g seat start at t.site ls' next (Eval (body_of f 1)) (k + 2) (h + 1) (omega arith) e room.1 (rw (f_is, eh, are) lead) (entered n) a.sixteen
 
     -- with a second, whose words begin at start + 4 * q
     module _ {l y : ℕ} (cost₂ : l ≡ cost_at w (start + 4 * get_or w (at + 2) 0)) (value₂ : simple_at w (start + 4 * get_or w (at + 2) 0) ls 0 ≡ Ok y) where
@@ -113,7 +113,7 @@ module _ {w ls : List ℕ} {g : Compact} {seat : Seat} {start at f : ℕ} (t : T
           rw (← b) (child_leads w ls g seat start at t.site _ _ l (second_stands h) refl cost₂ s y value₂)
 
       pub jump_two : arity_at w f ≡ 2 → {a b h n made : ℕ} {ls₁ ls' : List ℕ} {next : Compact} → a ≡ frames_of k → b ≡ frames_of l → h ≡ max a b → n ≡ both_of k l
-          → (0 < n) × Roomy g (n + 3) (h + 1) → ls₁ ≡ appended ls 0 x → ls' ≡ appended ls₁ 1 y → next ≡ later_of g (Eval f 0 2) g.depth made → made ≡ k + l + 3
+          → (0 < n) × Roomy g (n + 3) (h + 1) → ls₁ ≡ appended ls 0 x → ls' ≡ appended ls₁ 1 y → next ≡ later_of g (Eval (body_of f 2)) g.depth made → made ≡ k + l + 3
           → Jump w ls g seat ls' next
       unfolding control_of Controlled
       jump_two m {a} {b} {h} {n} {made} {ls₁} {ls'} {next} ea eb eh en room u₁ u₂ e em =
@@ -124,7 +124,7 @@ module _ {w ls : List ℕ} {g : Compact} {seat : Seat} {start at f : ℕ} (t : T
           let are : take 2 ls' ≡ x ∷ y ∷ [] = a₂.are ∙ ap (λ (v : List ℕ). v ++ (y ∷ [])) one in
           let lead = call_two_leads w seat.function seat.node (take seat.count ls) x y k l (frames_of k) (frames_of l) tag (rw f_is at m) (first_leads (omega arith) some.0) (second_leads (omega arith) some.1) in
           let top : h ≡ max (frames_of k) (frames_of l) = rw (ea, eb) at eh in
-          jump w ls g seat start at t.site ls' next (Eval f 0 2) (k + l + 3) (h + 1) (omega arith) (rw em at e) (rw some.2 at room.1) (rw (f_is, top, are) lead) (entered m) a₂.sixteen
+          jump w ls g seat start at t.site ls' next (Eval (body_of f 2)) (k + l + 3) (h + 1) (omega arith) (rw em at e) (rw some.2 at room.1) (rw (f_is, top, are) lead) (entered m) a₂.sixteen
 
       -- and a third, at start + 4 * p
       module _ {i z : ℕ} (cost₃ : i ≡ cost_at w (start + 4 * get_or w (at + 3) 0)) (value₃ : simple_at w (start + 4 * get_or w (at + 3) 0) ls 0 ≡ Ok z) where
@@ -135,7 +135,7 @@ module _ {w ls : List ℕ} {g : Compact} {seat : Seat} {start at f : ℕ} (t : T
 
         pub jump_three : arity_at w f ≡ 3 → {a b c d h n j : ℕ} {ls₁ ls₂ ls' : List ℕ} {next : Compact} → a ≡ frames_of k → b ≡ frames_of l → c ≡ frames_of i → d ≡ max b c → h ≡ max a d
             → j ≡ both_of k l → n ≡ both_of j i → (0 < n) × Roomy g (n + 4) (h + 1) → ls₁ ≡ appended ls 0 x → ls₂ ≡ appended ls₁ 1 y → ls' ≡ appended ls₂ 2 z
-            → next ≡ later_of g (Eval f 0 3) g.depth (k + l + i + 4) → Jump w ls g seat ls' next
+            → next ≡ later_of g (Eval (body_of f 3)) g.depth (k + l + i + 4) → Jump w ls g seat ls' next
         unfolding control_of Controlled
         jump_three m {a} {b} {c} {d} {h} {n} {j} {ls₁} {ls₂} {ls'} {next} ea eb ec ed eh ej en room u₁ u₂ u₃ e =
             let last = both_some n j i en room.0 in
@@ -149,4 +149,4 @@ module _ {w ls : List ℕ} {g : Compact} {seat : Seat} {start at f : ℕ} (t : T
             let are : take 3 ls' ≡ x ∷ y ∷ z ∷ [] = a₃.are ∙ ap (λ (v : List ℕ). v ++ (z ∷ [])) two in
             let lead = call_three_leads w seat.function seat.node (take seat.count ls) x y z k l i (frames_of k) (frames_of l) (frames_of i) tag (rw f_is at m) (first_leads (omega arith) some.0) (second_leads (omega arith) some.1) (third_leads (omega arith) last.1) in
             let top : h ≡ max (frames_of k) (max (frames_of l) (frames_of i)) = rw (ea, rw (eb, ec) at ed) at eh in
-            jump w ls g seat start at t.site ls' next (Eval f 0 3) (k + l + i + 4) (h + 1) (omega arith) e (rw sum at room.1) (rw (f_is, top, are) lead) (entered m) a₃.sixteen
+            jump w ls g seat start at t.site ls' next (Eval (body_of f 3)) (k + l + i + 4) (h + 1) (omega arith) e (rw sum at room.1) (rw (f_is, top, are) lead) (entered m) a₃.sixteen

@@ -119,13 +119,13 @@ module _ {w ls : List ℕ} {g : Compact} {seat : Seat} {start at : ℕ} (t : Tag
   choose_first = chooses.0
 
   pub jump_choose : (next : Compact) (x k h q : ℕ) → Led w ls seat x k → h ≡ frames_of k → Roomy g (k + 2) (h + 1)
-      → q ≡ cond (eqb x 0) (get_or w (at + 3) 0) (get_or w (at + 2) 0) → next ≡ later_of g (Eval seat.function q seat.count) g.depth (k + 2)
+      → q ≡ cond (eqb x 0) (get_or w (at + 3) 0) (get_or w (at + 2) 0) → next ≡ later_of g (Eval (record { function = seat.function; node = q; count = seat.count })) g.depth (k + 2)
       → Jump w ls g seat ls next
   unfolding control_of Controlled
   jump_choose next x k h q led eh room eq n =
       let q' : q ≡ cond (eqb x 0) (c_at w (start_of w seat.function) seat.node) (b_at w (start_of w seat.function) seat.node) = rw (here w ls g seat start at t.site) at eq in
       let lead = choose_leads w seat.function seat.node (take seat.count ls) x k (frames_of k) (tag_here w ls g seat start at t.site 3 t.is) led.first in
-      jump w ls g seat start at t.site ls next (Eval seat.function q seat.count) (k + 2) (h + 1) (omega arith) n room (rw (q', eh) lead)
+      jump w ls g seat start at t.site ls next (Eval (record { function = seat.function; node = q; count = seat.count })) (k + 2) (h + 1) (omega arith) n room (rw (q', eh) lead)
       (rw q' (on (eqb x 0) chooses.1 chooses.2)) t.site.sixteen
     where
       on : (z : Bool) {i j : ℕ} → Stands w seat.function i seat.count → Stands w seat.function j seat.count → Stands w seat.function (cond z j i) seat.count
@@ -145,14 +145,14 @@ module _ {w ls : List ℕ} {g : Compact} {seat : Seat} {start at : ℕ} (t : Tag
   let_few = omega (arith, lets.0)
 
   pub jump_let : (ls' : List ℕ) (next : Compact) (x k h q : ℕ) → Led w ls seat x k → h ≡ frames_of k → Roomy g (k + 2) (h + 1)
-      → q ≡ get_or w (at + 2) 0 → ls' ≡ appended ls seat.count x → next ≡ later_of g (Eval seat.function q (seat.count + 1)) g.depth (k + 2)
+      → q ≡ get_or w (at + 2) 0 → ls' ≡ appended ls seat.count x → next ≡ later_of g (Eval (record { function = seat.function; node = q; count = seat.count + 1 })) g.depth (k + 2)
       → Jump w ls g seat ls' next
   unfolding control_of Controlled
   jump_let ls' next x k h q led eh room eq u n =
       let q' : q ≡ b_at w (start_of w seat.function) seat.node = rw (here w ls g seat start at t.site) at eq in
       let lead = let_leads w seat.function seat.node (take seat.count ls) x k (frames_of k) (tag_here w ls g seat start at t.site 4 t.is) led.first in
       let more = is_appended ls ls' seat.count x let_few t.site.sixteen u in
-      jump w ls g seat start at t.site ls' next (Eval seat.function q (seat.count + 1)) (k + 2) (h + 1) (omega arith) n room (rw (q', eh, more.are) lead)
+      jump w ls g seat start at t.site ls' next (Eval (record { function = seat.function; node = q; count = seat.count + 1 })) (k + 2) (h + 1) (omega arith) n room (rw (q', eh, more.are) lead)
       (rw q' lets.2) more.sixteen
 
 -- AN ARITHMETIC
@@ -193,7 +193,7 @@ module _ {w ls : List ℕ} {g : Compact} {seat : Seat} {start at : ℕ} (t : Tag
   -- or its frame is written with the left one
   pub half_paired : (ws ws₁ ws' : List ℕ) (next : Compact) (x k h q : ℕ) → Led w ls seat x k → h ≡ frames_of k → Roomy g (k + 2) (h + 1) → q ≡ get_or w (at + 2) 0
       → ws₁ ≡ pushed ws (32 * g.depth) 1 seat.function seat.node seat.count ls 0 → ws' ≡ turned ws₁ (32 * g.depth) 1 x 0
-      → next ≡ later_of g (Eval seat.function q seat.count) (g.depth + 1) (k + 2) → Paired w ws ls g seat ws' (Some next)
+      → next ≡ later_of g (Eval (record { function = seat.function; node = q; count = seat.count })) (g.depth + 1) (k + 2) → Paired w ws ls g seat ws' (Some next)
   half_paired ws ws₁ ws' next x k h q led eh room eq e₁ e n = half next refl (record {
     left = x;
     cost = k;

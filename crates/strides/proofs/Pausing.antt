@@ -70,12 +70,12 @@ module _ {w ws ls : List ℕ} {plan : Plan} {g : Compact} where
       stays = λ next i. cc;
     })
 
-    pub node_spent : {seat : Seat} → g.control ≡ Eval seat.function seat.node seat.count → (tag_at w (start_of w seat.function) seat.node ≡ 6 → plan.birth ≡ false) → (r : Progress) → r ≡ twenty seat → Ends w ws ls plan g r
+    pub node_spent : {seat : Seat} → g.control ≡ Eval seat → (tag_at w (start_of w seat.function) seat.node ≡ 6 → plan.birth ≡ false) → (r : Progress) → r ≡ twenty seat → Ends w ws ls plan g r
     node_spent {seat} is low r e =
         let ready = c.starts.ready in
-        let site = here w ws ls plan (full g) ready seat.function seat.node seat.count is in
+        let site = here w ws ls plan (full g) ready seat is in
         let code : Code = record { function = seat.function; node = seat.node; locals = take seat.count ls } in
-        stop_ends seat (stepped_spent w ws ls plan (full g) ready seat.function seat.node seat.count is h
+        stop_ends seat (stepped_spent w ws ls plan (full g) ready seat is h
         (λ b d i. low (tag_is w ready.kept.table site ∙ fork_tag w code (node_at w (start_of w seat.function) seat.node) b d i)) _ refl) r e
 
     pub value_spent : {seat : Seat} {v top kind : ℕ} → Returning w ws ls plan g v top kind → kind < 7 → seat ≡ seat_at ws (32 * top) → (r : Progress) → r ≡ twenty seat → Ends w ws ls plan g r
@@ -105,7 +105,7 @@ module _ (w ws ls : List ℕ) (plan : Plan) (g : Compact) (seat : Seat) (a : Awa
 
   pub fork_framed : Framed ws ls (full g) seat
   unfolding Awaits
-  fork_framed = framed w ws ls plan (full g) fork_calm.starts.ready seat.function seat.node seat.count a.1
+  fork_framed = framed w ws ls plan (full g) fork_calm.starts.ready seat a.1
 
   module _ (s : Registers) (e : s ≡ full g) (ws' : List ℕ) (long : length ws' ≡ length ws) (o : Step) (u : Forked ws ws' ls s seat o) where
     forked_here : Forked ws ws' ls (full g) seat o

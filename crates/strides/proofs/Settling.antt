@@ -19,13 +19,16 @@ use Rattle.table.specs.declared.Node.TheVariants.{Constant, Local, Both}
 use Rattle.table.specs.Words.{start_of, tag_at, a_at, b_at, c_at}
 use Rattle.table.specs.Nodes.{node_of, node_at}
 use Rattle.moves.specs.declared.Control.TheVariants.{Eval, Ret}
+use Rattle.moves.specs.declared.kind.Kind.{Kind}
+use Rattle.moves.specs.declared.kind.Kind.TheVariants.{PromotedRight}
 use Rattle.moves.specs.declared.Registers.{Registers}
 use Rattle.frames.specs.declared.Seat.{Seat}
 use Rattle.moves.specs.declared.Plan.{Plan}
 use Rattle.moves.specs.declared.Step.{Step}
 use Rattle.moves.specs.declared.Step.TheVariants.{Go, Value, Halt}
-use Rattle.moves.specs.Layout.{code_at, slot_of, state_of, result_of}
+use Rattle.moves.specs.Layout.{word_of, kind_of, code_at, slot_of, state_of, result_of}
 use Rattle.moves.specs.Ready.{Stands, Stepped, Advanced, Returns, Framed, transited, OpenedBoth, born, plain, Forked, forks, Opened, dry, opens}
+use Rattle.moves.proofs.FrameKinds.{word_told}
 use Rattle.moves.proofs.Steps.{bounds, here, framed, stepped_constant, stepped_local, stepped_both}
 use Rattle.moves.proofs.Advancing.{advanced_move}
 use Rattle.moves.proofs.Returning.{returned}
@@ -180,6 +183,10 @@ pub returning_here : {w ws ls : List ℕ} {plan : Plan} {g : Compact} {v top kin
     → Returning w ws ls plan g v top kind
 returning_here c e d k = record { calm = c; is = e; depth = d; of_kind = sym k }
 
+pub returning_told : {w ws ls : List ℕ} {plan : Plan} {g : Compact} {v top : ℕ} {r kind : Kind} → Calm w ws ls plan g → g.control ≡ Ret v → g.depth ≡ top + 1 → r ≡ kind_of (frame_kind ws (32 * top))
+    → r ≡ kind → (kind ≡ PromotedRight → ⊥) → Returning w ws ls plan g v top (word_of kind)
+returning_told c e d k i n = record { calm = c; is = e; depth = d; of_kind = word_told k i n }
+
 -- WHICH EVENT a free move is
 module _ {w ws ls : List ℕ} {plan : Plan} {g : Compact} where
   pub turn_occurs : {v top kind : ℕ} → Returning w ws ls plan g v top kind → kind ≡ 7 → (next : Compact) → Occurs w ws ls plan g next (Turn top)
@@ -196,13 +203,13 @@ unfolding Occurs
 promote_occurs w ws ls plan g due next = strides.promoted due refl
 
 -- A FORK, at a node that is a "both"
-pub fork_stepped : {w ws ls : List ℕ} {plan : Plan} {g : Compact} {seat : Seat} → Calm w ws ls plan g → g.control ≡ Eval seat.function seat.node seat.count
+pub fork_stepped : {w ws ls : List ℕ} {plan : Plan} {g : Compact} {seat : Seat} → Calm w ws ls plan g → g.control ≡ Eval seat
     → tag_at w (start_of w seat.function) seat.node ≡ 6 → (ws' : List ℕ) → length ws' ≡ length ws → {o : Step} → OpenedBoth ws ws' ls plan (full g) seat o → Stepped w ws ls plan (full g) ws' ls o
 unfolding node_of
 fork_stepped {w} {ws} {ls} {plan} {g} {seat} c e t ws' long {o} u =
     let first = start_of w seat.function in
     let n : node_at w first seat.node ≡ Both (b_at w first seat.node) (c_at w first seat.node) = rw t in
-    stepped_both w ws ls plan (full g) c.starts.ready seat.function seat.node seat.count e ws' long o _ _ n u
+    stepped_both w ws ls plan (full g) c.starts.ready seat e ws' long o _ _ n u
 
 -- in a free frame
 pub fork_goes : (g : Compact) {ws ws' ls : List ℕ} {seat : Seat} {o : Step} → Forked ws ws' ls (full g) seat o → g.depth < length ws / 32
@@ -219,10 +226,10 @@ module _ {w ws ls : List ℕ} {plan : Plan} {g : Compact} {seat : Seat} {start a
   site_tag = rw site_word at t.tagged
 
   pub site_stands : Stands w seat.function seat.node seat.count
-  site_stands = here w ws ls plan (full g) t.calm.starts.ready seat.function seat.node seat.count t.is
+  site_stands = here w ws ls plan (full g) t.calm.starts.ready seat t.is
 
   pub site_framed : Framed ws ls (full g) seat
-  site_framed = framed w ws ls plan (full g) t.calm.starts.ready seat.function seat.node seat.count t.is
+  site_framed = framed w ws ls plan (full g) t.calm.starts.ready seat t.is
 
   abbrev first : ℕ
   first = start_of w seat.function
@@ -245,9 +252,9 @@ module _ {w ws ls : List ℕ} {plan : Plan} {g : Compact} {seat : Seat} {start a
       on (yes e) =
           let n : node_at w first seat.node ≡ Constant (a_at w first seat.node + 4294967296 * b_at w first seat.node) = rw (site_tag ∙ e) in
           let v : leaf_at w at ls 0 ≡ a_at w first seat.node + 4294967296 * b_at w first seat.node = rw (site_word, site_tag, e) in
-          stepped_constant w ws ls plan (full g) t.calm.starts.ready seat.function seat.node seat.count t.is _ o n (rw v at u)
+          stepped_constant w ws ls plan (full g) t.calm.starts.ready seat t.is _ o n (rw v at u)
       on (no e) =
           let z : tag ≡ 1 = omega arith in
           let n : node_at w first seat.node ≡ Local (a_at w first seat.node) = rw (site_tag ∙ z) in
           let v : leaf_at w at ls 0 ≡ get_or ls (a_at w first seat.node) 0 = rw (site_word, site_tag, z) (ap (λ i. get_or ls i 0) (omega arith)) in
-          stepped_local w ws ls plan (full g) t.calm.starts.ready seat.function seat.node seat.count t.is _ o n (rw v at u)
+          stepped_local w ws ls plan (full g) t.calm.starts.ready seat t.is _ o n (rw v at u)

@@ -82,7 +82,7 @@ module _ {w ws ls : List ℕ} {plan : Plan} {g : Compact} (s : Starts w ws ls pl
   })
 
   -- a node
-  module _ (seat : Seat) (e : g.control ≡ Eval seat.function seat.node seat.count) where
+  module _ (seat : Seat) (e : g.control ≡ Eval seat) where
     pub jump_strides : (ls' : List ℕ) (next : Compact) → Jump w ls g seat ls' next → Strides w ws ls plan g ws ls' (Go next)
     unfolding control_of
     jump_strides ls' next j =
@@ -133,7 +133,7 @@ module _ {w ws ls : List ℕ} {plan : Plan} {g : Compact} (s : Starts w ws ls pl
         let two : j.cost + 1 + 1 ≡ k = omega arith in
         let runs = code_opens K (language w) plan.fuel.0 (length ws / 32) plan.birth plan.period code (first code) (at code (second w code) code.locals) (left_operand code) (right_operand code j.left) j.left j.cost j.most opens j.first refl
         S (full g).credits.0 (full g).span.0 (run_counts_of (full g)) (roomy (promotable S) (length S) k (j.most + 1) refl l j.room) in
-        let to = Eval seat.function j.right seat.count in
+        let to = Eval (record { function = seat.function; node = j.right; count = seat.count }) in
         many_strides to (d + 1) k ws' ls n j.is (record {
           more = j.cost + 1;
           same = rw (two, e) (runs ∙ ends to (d + 1) (length S) k (j.most + 1) ws' ls _ _ (rw j.second) stack l j.room);
@@ -208,7 +208,7 @@ tag_low (Call f b c) h = omega arith
 tag_low (Both b c) h = omega arith
 tag_low Unknown h = absurd (h refl)
 
-module _ {w ws ls : List ℕ} {plan : Plan} {g : Compact} (c : Calm w ws ls plan g) {seat : Seat} (e : g.control ≡ Eval seat.function seat.node seat.count) where
+module _ {w ws ls : List ℕ} {plan : Plan} {g : Compact} (c : Calm w ws ls plan g) {seat : Seat} (e : g.control ≡ Eval seat) where
   site_here : Stands w seat.function seat.node seat.count
   site_here = here c.starts seat e
 

@@ -12,6 +12,8 @@ use Rattle.frames.specs.Frames.{frame_kind, pushed, turned}
 use Rattle.language.specs.Language.{Code, left_operand, language}
 use Rattle.moves.specs.declared.Control.{Control}
 use Rattle.moves.specs.declared.Control.TheVariants.{Eval, Ret}
+use Rattle.moves.specs.declared.kind.Kind.{Kind}
+use Rattle.moves.specs.declared.kind.Kind.TheVariants.{LeftOperand, Condition, Binding, Argument}
 use Rattle.moves.specs.declared.Registers.{Registers}
 use Rattle.moves.specs.declared.Plan.{Plan}
 use Rattle.frames.specs.declared.Seat.{Seat}
@@ -89,9 +91,9 @@ unfoldable pub Awaits : (w ws ls : List ℕ) (plan : Plan) (g : Compact) → Pau
 Awaits w ws ls plan g pause.Limit = g.limit ≤ g.transitions
 Awaits w ws ls plan g pause.Promotion = (leb plan.period (full g).credits.0 && ltb g.oldest g.depth) ≡ true
 Awaits w ws ls plan g (pause.Fork seat) =
-    Calm w ws ls plan g × (g.control ≡ Eval seat.function seat.node seat.count) × (tag_at w (start_of w seat.function) seat.node ≡ 6) × (plan.birth ≡ true)
+    Calm w ws ls plan g × (g.control ≡ Eval seat) × (tag_at w (start_of w seat.function) seat.node ≡ 6) × (plan.birth ≡ true)
 Awaits w ws ls plan g (pause.Turn v top) = Returning w ws ls plan g v top 7
-Awaits w ws ls plan g (pause.Join v top kind) = Returning w ws ls plan g v top kind × (8 ≤ kind)
+Awaits w ws ls plan g (pause.Join v top) = Returning w ws ls plan g v top (frame_kind ws (32 * top)) × (8 ≤ frame_kind ws (32 * top))
 
 -- A STRIDE OR A PAUSE, which changes nothing
 pub data Passes (w ws ls : List ℕ) (plan : Plan) (g : Compact) (ws' ls' : List ℕ) (r : Progress) : Type 0 where
@@ -120,7 +122,7 @@ pub record Tagged (w ls : List ℕ) (g : Compact) (seat : Seat) (start at tag : 
 
 pub record Evaluating (w ws ls : List ℕ) (plan : Plan) (g : Compact) (seat : Seat) (start at tag : ℕ) : Type 0 where
   pub calm : Calm w ws ls plan g
-  pub is : g.control ≡ Eval seat.function seat.node seat.count
+  pub is : g.control ≡ Eval seat
   pub place : start ≡ start_of w seat.function
   pub word : at ≡ start + 4 * seat.node
   pub tagged : get_or w at 0 ≡ tag
@@ -151,7 +153,7 @@ pub record Half (w ws ls : List ℕ) (g : Compact) (seat : Seat) (ws' : List ℕ
   pub cost : ℕ
   pub most : ℕ
   pub right : ℕ
-  pub is : next ≡ later_of g (Eval seat.function right seat.count) (g.depth + 1) (cost + 2)
+  pub is : next ≡ later_of g (Eval (record { function = seat.function; node = right; count = seat.count })) (g.depth + 1) (cost + 2)
   pub first : Leads (language w) (code_of seat (seat.node + 1) ls) (return left) cost most
   pub second : right ≡ get_or w (start_of w seat.function + 4 * seat.node + 2) 0
   pub room : Roomy g (cost + 2) (most + 1)
@@ -163,27 +165,31 @@ pub data Paired (w ws ls : List ℕ) (g : Compact) (seat : Seat) (ws' : List ℕ
   half : (next : Compact) → r ≡ Some next → Half w ws ls g seat ws' next → Paired w ws ls g seat ws' r
   neither : r ≡ None → ws' ≡ ws → Paired w ws ls g seat ws' r
 
+-- the body of a function, with so many arguments
+abbrev pub body_of : ℕ → ℕ → Seat
+body_of f k = record { function = f; node = 0; count = k }
+
 -- WHAT A CALL COMES TO, of the function in the word after `at`: with no arguments it is entered; with some that are simple it jumps
 pub data Calls (w ls : List ℕ) (g : Compact) (seat : Seat) (at : ℕ) (ls' : List ℕ) (r : Option Compact) : Type 0 where
-  alone : arity_at w (get_or w (at + 1) 0) ≡ 0 → ls' ≡ ls → r ≡ Some (later_of g (Eval (get_or w (at + 1) 0) 0 0) g.depth 1) → Calls w ls g seat at ls' r
+  alone : arity_at w (get_or w (at + 1) 0) ≡ 0 → ls' ≡ ls → r ≡ Some (later_of g (Eval (body_of (get_or w (at + 1) 0) 0)) g.depth 1) → Calls w ls g seat at ls' r
   given : 0 < arity_at w (get_or w (at + 1) 0) → Jumps w ls g seat ls' r → Calls w ls g seat at ls' r
 
 -- THE KIND OF THE FRAME that the node at word `at` opens for its first child: an arithmetic, a choose, a let, or a call with arguments
-pub data Opens (w : List ℕ) (at kind : ℕ) : Type 0 where
-  operand : get_or w at 0 ≡ 2 → kind ≡ 0 → Opens w at kind
-  condition : get_or w at 0 ≡ 3 → kind ≡ 2 → Opens w at kind
-  binding : get_or w at 0 ≡ 4 → kind ≡ 3 → Opens w at kind
-  argument : get_or w at 0 ≡ 5 → 0 < arity_at w (get_or w (at + 1) 0) → kind ≡ 4 → Opens w at kind
+pub data Opens (w : List ℕ) (at : ℕ) (kind : Kind) : Type 0 where
+  operand : get_or w at 0 ≡ 2 → kind ≡ LeftOperand → Opens w at kind
+  condition : get_or w at 0 ≡ 3 → kind ≡ Condition → Opens w at kind
+  binding : get_or w at 0 ≡ 4 → kind ≡ Binding → Opens w at kind
+  argument : get_or w at 0 ≡ 5 → 0 < arity_at w (get_or w (at + 1) 0) → kind ≡ Argument → Opens w at kind
 
 -- WHAT A NODE COMES TO: it jumps; a call with no arguments is entered; a constant or a local has its value; an arithmetic's frame is written with its
 -- left operand; or a frame is to be opened by a step
-pub data Struck (w ws ls : List ℕ) (g : Compact) (seat : Seat) (at : ℕ) (ws' ls' : List ℕ) (r : Result Compact ℕ) : Type 0 where
+pub data Struck (w ws ls : List ℕ) (g : Compact) (seat : Seat) (at : ℕ) (ws' ls' : List ℕ) (r : Result Compact Kind) : Type 0 where
   jumps : (next : Compact) → r ≡ Ok next → ws' ≡ ws → Jump w ls g seat ls' next → Struck w ws ls g seat at ws' ls' r
-  enters : get_or w at 0 ≡ 5 → arity_at w (get_or w (at + 1) 0) ≡ 0 → ws' ≡ ws → ls' ≡ ls → r ≡ Ok (later_of g (Eval (get_or w (at + 1) 0) 0 0) g.depth 1)
+  enters : get_or w at 0 ≡ 5 → arity_at w (get_or w (at + 1) 0) ≡ 0 → ws' ≡ ws → ls' ≡ ls → r ≡ Ok (later_of g (Eval (body_of (get_or w (at + 1) 0) 0)) g.depth 1)
       → Struck w ws ls g seat at ws' ls' r
   reads : get_or w at 0 < 2 → ws' ≡ ws → ls' ≡ ls → r ≡ Ok (later_of g (Ret (leaf_at w at ls 0)) g.depth 1) → Struck w ws ls g seat at ws' ls' r
   halves : (next : Compact) → r ≡ Ok next → ls' ≡ ls → get_or w at 0 ≡ 2 → Half w ws ls g seat ws' next → Struck w ws ls g seat at ws' ls' r
-  opens : (kind : ℕ) → r ≡ Err kind → ws' ≡ ws → ls' ≡ ls → Opens w at kind → Struck w ws ls g seat at ws' ls' r
+  opens : (kind : Kind) → r ≡ Err kind → ws' ≡ ws → ls' ≡ ls → Opens w at kind → Struck w ws ls g seat at ws' ls' r
 
 -- its first child has the value x by k transitions
 pub record Led (w ls : List ℕ) (seat : Seat) (x k : ℕ) : Type 0 where

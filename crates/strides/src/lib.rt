@@ -10,13 +10,13 @@
 ghost use Rattle.std.specs.Prelude.{◌≡◌, cond, ◌+◌, ◌*◌, ◌/◌, ◌<◌, ◌≤◌, length, get_or, eqb};
 ghost use Rattle.table.specs.Words.{arity_at};
 ghost use Rattle.moves.specs.Ready.{Paid, Operand};
-ghost use Rattle.compact.specs.Compact.{full, Small};
+ghost use Rattle.compact.specs.Compact.{full, later_of, Small};
 ghost use Rattle.operands.specs.Operands.{cost_at};
-ghost use Rattle.strides.specs.Strides.{Strides, Frees, Awaits, Passes, Ends, Starts, Calm, Tagged, Evaluating, Jumps, Paired, Led, Calls, Struck, Rebounds, Returning};
+ghost use Rattle.strides.specs.Strides.{body_of, Strides, Frees, Awaits, Passes, Ends, Starts, Calm, Tagged, Evaluating, Jumps, Paired, Led, Calls, Struck, Rebounds, Returning};
 
 use compact::{Compact, Event, Pause, Progress};
 use frames::Seat;
-use moves::{Control, Job, Plan, Step, Stopped};
+use moves::{Control, Job, Kind, Plan, Step, Stopped};
 use schedule::Span;
 
 // The tags of the nodes that are no constant and no local.
@@ -74,13 +74,13 @@ fn half(
     if !compact::fits(g, k, 2, h) {
         return None;
     }
-    let f = seat.function;
-    let count = seat.count;
+    let kind = u64::from(Kind::RightOperand);
     let b = frames::WORDS * g.depth;
-    frames::push(ws, b, moves::RIGHT_OPERAND, seat, locals, Span::none());
-    frames::turn(ws, b, moves::RIGHT_OPERAND, x, Span::none());
-    let control = Control::Eval(f, words[at + 2] as usize, count);
-    Some(compact::later(g, control, g.depth + 1, k + 2))
+    frames::push(ws, b, kind, seat, locals, Span::none());
+    frames::turn(ws, b, kind, x, Span::none());
+    let node = words[at + 2] as usize;
+    let right = Control::Eval(Seat { node, ..seat });
+    Some(compact::later(g, right, g.depth + 1, k + 2))
 }
 
 // An arithmetic whose left operand is simple and has the value x.
@@ -158,8 +158,9 @@ fn choose(
         return None;
     }
     let x = operands::simple(words, at + 4, locals, 0).ok()?;
-    let control = Control::Eval(seat.function, branch(words, at, x), seat.count);
-    Some(compact::later(g, control, g.depth, k + 2))
+    let node = branch(words, at, x);
+    let taken = Control::Eval(Seat { node, ..seat });
+    Some(compact::later(g, taken, g.depth, k + 2))
 }
 
 // A let whose first is simple: the second is evaluated with the value added.
@@ -179,10 +180,26 @@ fn bind(
         return None;
     }
     let x = operands::simple(words, at + 4, locals, 0).ok()?;
-    let count = seat.count;
-    frames::append(locals, count, x);
-    let control = Control::Eval(seat.function, words[at + 2] as usize, count + 1);
-    Some(compact::later(g, control, g.depth, k + 2))
+    frames::append(locals, seat.count, x);
+    let second = Seat {
+        node: words[at + 2] as usize,
+        count: seat.count + 1,
+        ..seat
+    };
+    Some(compact::later(g, Control::Eval(second), g.depth, k + 2))
+}
+
+// The body of f is entered with so many arguments, k transitions later.
+fn entered(g: Compact, f: usize, count: usize, k: u64) -> Compact
+    requires { (Small g) × (k ≤ 1000) }
+    ensures { result ≡ later_of g (Control.Eval (body_of f count)) g.depth k }
+{
+    let body = Seat {
+        function: f,
+        node: 0,
+        count,
+    };
+    compact::later(g, Control::Eval(body), g.depth, k)
 }
 
 // A call of f with one argument, which is simple.
@@ -206,7 +223,7 @@ fn call_one(
     }
     let x = operands::simple(words, at + 4, locals, 0).ok()?;
     frames::append(locals, 0, x);
-    Some(compact::later(g, Control::Eval(f, 0, 1), g.depth, k + 2))
+    Some(entered(g, f, 1, k + 2))
 }
 
 // A call of f with two arguments, which are simple.
@@ -233,7 +250,7 @@ fn call_two(
     let y = operands::simple(words, two, locals, 0).ok()?;
     frames::append(locals, 0, x);
     frames::append(locals, 1, y);
-    Some(compact::later(g, Control::Eval(f, 0, 2), g.depth, k + l + 3))
+    Some(entered(g, f, 2, k + l + 3))
 }
 
 // A call of f with three arguments, which are simple.
@@ -266,7 +283,7 @@ fn call_three(
     frames::append(locals, 0, x);
     frames::append(locals, 1, y);
     frames::append(locals, 2, z);
-    Some(compact::later(g, Control::Eval(f, 0, 3), g.depth, k + l + m + 4))
+    Some(entered(g, f, 3, k + l + m + 4))
 }
 
 // A call, by its number of arguments.
@@ -283,7 +300,7 @@ fn call(
 {
     let f = words[at + 1] as usize;
     match table::arity(words, f) {
-        0 => Some(compact::later(g, Control::Eval(f, 0, 0), g.depth, 1)),
+        0 => Some(entered(g, f, 0, 1)),
         1 => call_one(words, start, at, seat, locals, g, f),
         2 => call_two(words, start, at, seat, locals, g, f),
         3 => call_three(words, start, at, seat, locals, g, f),
@@ -301,15 +318,15 @@ fn strike(
     locals: &mut [u64],
     g: Compact,
     tag: u32,
-) -> Result<Compact, u64>
+) -> Result<Compact, Kind>
     requires { (Tagged words.now locals.old g seat start at tag) × (tag < 6) × (length ws.old / 32 ≤ 4096) × (g.deepest ≤ length ws.old / 32) }
     ensures { Struck words.now ws.old locals.old g seat at ws.new locals.new result }
 {
     match tag {
-        ARITHMETIC => pair(words, start, at, seat, ws, locals, g).ok_or(moves::LEFT_OPERAND),
-        CHOOSE => choose(words, start, at, seat, locals, g).ok_or(moves::CONDITION),
-        LET => bind(words, start, at, seat, locals, g).ok_or(moves::BINDING),
-        CALL => call(words, start, at, seat, locals, g).ok_or(moves::ARGUMENT),
+        ARITHMETIC => pair(words, start, at, seat, ws, locals, g).ok_or(Kind::LeftOperand),
+        CHOOSE => choose(words, start, at, seat, locals, g).ok_or(Kind::Condition),
+        LET => bind(words, start, at, seat, locals, g).ok_or(Kind::Binding),
+        CALL => call(words, start, at, seat, locals, g).ok_or(Kind::Argument),
         _ => {
             let v = operands::leaf(words, at, locals, 0);
             Ok(compact::later(g, Control::Ret(v), g.depth, 1))
@@ -347,7 +364,7 @@ fn evaluate(
     g: Compact,
     seat: Seat,
 ) -> Progress
-    requires { (Calm job.words.now ws.old locals.old plan g) × (g.control ≡ Control.Eval seat.function seat.node seat.count) × (Paid plan (full g)) }
+    requires { (Calm job.words.now ws.old locals.old plan g) × (g.control ≡ Control.Eval seat) × (Paid plan (full g)) }
     ensures { Passes job.entry.words.now ws.old locals.old plan g ws.new locals.new result }
 {
     let start = job.start(seat.function);
@@ -401,41 +418,6 @@ fn ret_left(
     compact::keep(g, step)
 }
 
-// A value returns by a transition, to a frame that is not promoted.
-fn ret_paid(
-    job: Job,
-    ws: &mut [u64],
-    locals: &mut [u64],
-    plan: Plan,
-    g: Compact,
-    v: u64,
-    top: usize,
-    kind: u64,
-) -> Progress
-    requires { (Returning job.words.now ws.old locals.old plan g v top kind) × (kind < 7) × (Paid plan (full g)) }
-    ensures { Strides job.entry.words.now ws.old locals.old plan g ws.new locals.new result }
-{
-    let s = compact::expand(g);
-    match kind {
-        moves::LEFT_OPERAND => ret_left(job, ws, locals, plan, g, v, top),
-        moves::RIGHT_OPERAND => compact::keep(
-            g,
-            moves::ret_right_operand(job, ws, locals, plan, s, v, top),
-        ),
-        moves::CONDITION => compact::keep(
-            g,
-            moves::ret_condition(job, ws, locals, plan, s, v, top),
-        ),
-        moves::BINDING => compact::keep(g, moves::ret_binding(job, ws, locals, plan, s, v, top)),
-        moves::ARGUMENT => compact::keep(g, moves::ret_argument(job, ws, locals, plan, s, v, top)),
-        moves::PLAIN_LEFT => compact::settle(
-            plan,
-            moves::ret_plain_left(job, ws, locals, plan, s, v, top),
-        ),
-        _ => compact::keep(g, moves::ret_plain_right(job, ws, locals, plan, s, v, top)),
-    }
-}
-
 // A value returns to the newest frame, or ends the run. At a promoted fork it arrives with no transition.
 fn ret(job: Job, ws: &mut [u64], locals: &mut [u64], plan: Plan, g: Compact, v: u64) -> Progress
     requires { (Calm job.words.now ws.old locals.old plan g) × (g.control ≡ Control.Ret v) × (Paid plan (full g)) }
@@ -445,13 +427,26 @@ fn ret(job: Job, ws: &mut [u64], locals: &mut [u64], plan: Plan, g: Compact, v: 
         return Progress::Value(v);
     }
     let top = g.depth - 1;
-    let kind = moves::kind_at(ws, top);
-    if kind < moves::PROMOTED_LEFT {
-        ret_paid(job, ws, locals, plan, g, v, top, kind)
-    } else if kind == moves::PROMOTED_LEFT {
-        Progress::Paused(Pause::Turn(v, top))
-    } else {
-        Progress::Paused(Pause::Join(v, top, kind))
+    let s = compact::expand(g);
+    match moves::kind_at(ws, top) {
+        Kind::LeftOperand => ret_left(job, ws, locals, plan, g, v, top),
+        Kind::RightOperand => compact::keep(
+            g,
+            moves::ret_right_operand(job, ws, locals, plan, s, v, top),
+        ),
+        Kind::Condition => compact::keep(g, moves::ret_condition(job, ws, locals, plan, s, v, top)),
+        Kind::Binding => compact::keep(g, moves::ret_binding(job, ws, locals, plan, s, v, top)),
+        Kind::Argument => compact::keep(g, moves::ret_argument(job, ws, locals, plan, s, v, top)),
+        Kind::PlainLeft => compact::settle(
+            plan,
+            moves::ret_plain_left(job, ws, locals, plan, s, v, top),
+        ),
+        Kind::PlainRight => compact::keep(
+            g,
+            moves::ret_plain_right(job, ws, locals, plan, s, v, top),
+        ),
+        Kind::PromotedLeft => Progress::Paused(Pause::Turn(v, top)),
+        Kind::PromotedRight => Progress::Paused(Pause::Join(v, top)),
     }
 }
 
@@ -464,14 +459,7 @@ pub fn stride(job: Job, ws: &mut [u64], locals: &mut [u64], plan: Plan, g: Compa
         return Progress::Paused(Pause::Limit);
     }
     match g.control {
-        Control::Eval(function, node, count) => {
-            let seat = Seat {
-                function,
-                node,
-                count,
-            };
-            evaluate(job, ws, locals, plan, g, seat)
-        }
+        Control::Eval(seat) => evaluate(job, ws, locals, plan, g, seat),
         Control::Ret(v) => ret(job, ws, locals, plan, g, v),
     }
 }
@@ -549,12 +537,11 @@ pub fn join(
     g: Compact,
     v: u64,
     top: usize,
-    kind: u64,
 ) -> Progress
-    requires { Awaits job.words.now ws.now locals.old plan g (Pause.Join v top kind) }
+    requires { Awaits job.words.now ws.now locals.old plan g (Pause.Join v top) }
     ensures { Frees job.entry.words.now ws.now locals.old plan g (Event.Join top) ws.now locals.new result }
 {
-    let step = moves::joined(job, ws, locals, plan, compact::expand(g), v, top, kind);
+    let step = moves::joined(job, ws, locals, plan, compact::expand(g), v, top);
     let next = compact::restart(plan, step);
     compact::free(next, Event::Join(top))
 }
@@ -572,7 +559,7 @@ fn spent(seat: Seat) -> Progress
 
 // A node is evaluated with the fuel spent: only a fork that is promoted at its birth can go on.
 fn spent_node(job: Job, ws: &[u64], locals: &[u64], plan: Plan, g: Compact, seat: Seat) -> Progress
-    requires { (Calm job.words.now ws.now locals.now plan g) × (g.control ≡ Control.Eval seat.function seat.node seat.count) × (plan.fuel.0 ≤ g.transitions) }
+    requires { (Calm job.words.now ws.now locals.now plan g) × (g.control ≡ Control.Eval seat) × (plan.fuel.0 ≤ g.transitions) }
     ensures { Ends job.entry.words.now ws.now locals.now plan g result }
 {
     let start = job.start(seat.function);
@@ -600,13 +587,10 @@ fn spent_value(
         return Progress::Value(v);
     }
     let top = g.depth - 1;
-    let kind = moves::kind_at(ws, top);
-    if kind < moves::PROMOTED_LEFT {
-        spent(frames::seat_of(ws, frames::WORDS * top))
-    } else if kind == moves::PROMOTED_LEFT {
-        Progress::Paused(Pause::Turn(v, top))
-    } else {
-        Progress::Paused(Pause::Join(v, top, kind))
+    match moves::kind_at(ws, top) {
+        Kind::PromotedLeft => Progress::Paused(Pause::Turn(v, top)),
+        Kind::PromotedRight => Progress::Paused(Pause::Join(v, top)),
+        _ => spent(frames::seat_of(ws, frames::WORDS * top)),
     }
 }
 
@@ -619,14 +603,7 @@ pub fn at_limit(job: Job, ws: &[u64], locals: &[u64], plan: Plan, g: Compact) ->
         return Progress::Paused(Pause::Promotion);
     }
     match g.control {
-        Control::Eval(function, node, count) => {
-            let seat = Seat {
-                function,
-                node,
-                count,
-            };
-            spent_node(job, ws, locals, plan, g, seat)
-        }
+        Control::Eval(seat) => spent_node(job, ws, locals, plan, g, seat),
         Control::Ret(v) => spent_value(job.words, ws, locals, plan, g, v),
     }
 }

@@ -12,8 +12,8 @@ pub append-requires : goal.append-requires
 append-requires c =
     omega (arith, few_here c.requires.0 c.args.n c.requires.2, c.load_arguments.auto.locals, c.requires.0.ready.kept.sixteen)
 
-pub overflow_add-count : goal.overflow_add-count
-overflow_add-count c =
+pub overflow_add-body : goal.overflow_add-body
+overflow_add-body c =
     omega (arith, few_here c.requires.0 c.args.n c.requires.2)
 
 pub returns : goal.returns

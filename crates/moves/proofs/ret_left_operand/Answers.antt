@@ -5,8 +5,8 @@ use Rattle.moves.proofs.ret_left_operand.Goals as goal
 
 pub child-seat-requires : goal.child-seat-requires
 child-seat-requires c =
-    sitting_turned c.requires.0 1 0 _ c.turn.auto.ws (rw c.none.ensures at c.turn.ensures)
+    sitting_turned c.requires.0 1 0 _ c.turn.auto.ws (rw (c.into.ensures, c.none.ensures) at c.turn.ensures)
 
 pub returns : goal.returns
 returns c =
-    (stepped_left_operand c.requires.0 c.requires.1 _ _ _ c.turn.auto.ws (rw c.none.ensures at c.turn.ensures) c.child-seat.ensures _ c.tick.ensures, ticks_go c.args.s c.tick.ensures)
+    (stepped_left_operand c.requires.0 c.requires.1 _ _ _ c.turn.auto.ws (rw (c.into.ensures, c.none.ensures) at c.turn.ensures) c.child-seat.ensures _ c.tick.ensures, ticks_go c.args.s c.tick.ensures)

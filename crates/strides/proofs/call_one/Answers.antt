@@ -14,4 +14,4 @@ simple-requires c =
 pub returns : goal.returns
 returns c =
     jump_one c.requires.0 c.requires.1 c.cost-k.ensures (ok_is c.simple.ensures c.ok.ensures.value c.in_ok-x.was) c.requires.2
-    c.frames_of.ensures (c.fits.ensures c.if-not-fits.false) c.append.ensures c.later.ensures
+    c.frames_of.ensures (c.fits.ensures c.if-not-fits.false) c.append.ensures c.entered.ensures

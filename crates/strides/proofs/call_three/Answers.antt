@@ -34,4 +34,4 @@ returns c =
     c.cost-l.ensures (ok_is c.simple-2.ensures c.ok-2.ensures.value c.in_ok-y.was)
     c.cost-m.ensures (ok_is c.simple-3.ensures c.ok-3.ensures.value c.in_ok-z.was) c.requires.2
     c.frames_of-3.ensures c.frames_of.ensures c.frames_of-2.ensures c.max-low.ensures c.max-h.ensures
-    c.both.ensures c.both-2.ensures (c.fits.ensures c.if-not-fits.false) c.append.ensures c.append-2.ensures c.append-3.ensures c.later.ensures
+    c.both.ensures c.both-2.ensures (c.fits.ensures c.if-not-fits.false) c.append.ensures c.append-2.ensures c.append-3.ensures c.entered.ensures

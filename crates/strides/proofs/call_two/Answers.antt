@@ -24,4 +24,4 @@ pub returns : goal.returns
 returns c =
     jump_two c.requires.0 c.requires.1 c.cost-k.ensures (ok_is c.simple.ensures c.ok.ensures.value c.in_ok-x.was)
     c.cost-l.ensures (ok_is c.simple-2.ensures c.ok-2.ensures.value c.in_ok-y.was) c.requires.2
-    c.frames_of.ensures c.frames_of-2.ensures c.max-h.ensures c.both.ensures (c.fits.ensures c.if-not-fits.false) c.append.ensures c.append-2.ensures c.later.ensures (omega arith)
+    c.frames_of.ensures c.frames_of-2.ensures c.max-h.ensures c.both.ensures (c.fits.ensures c.if-not-fits.false) c.append.ensures c.append-2.ensures c.entered.ensures (omega arith)

@@ -13,4 +13,4 @@ returns c =
     let p = c.requires in
     let fit = c.fits.ensures c.if-not-fits.false in
     let led = first_led p.site (choose_first p) _ c.cost-k.ensures fit.0 _ (ok_is c.simple.ensures c.ok.ensures.value c.in_ok-x.was) in
-    jump_choose p _ _ _ _ _ led c.frames_of.ensures fit.1 c.branch-words.ensures c.later.ensures
+    jump_choose p _ _ _ _ _ led c.frames_of.ensures fit.1 c.branch-node.ensures c.later.ensures

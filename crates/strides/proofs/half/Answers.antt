@@ -23,8 +23,8 @@ push-requires c =
 pub turn-requires : goal.turn-requires
 turn-requires c = omega (arith, (c.fits.ensures c.if-not-fits.false).1.within)
 
-pub overflow_add-control : goal.overflow_add-control
-overflow_add-control c = omega (arith, within c.requires.0.site)
+pub overflow_add-node : goal.overflow_add-node
+overflow_add-node c = omega (arith, within c.requires.0.site)
 
 pub offset_bounds-words-at : goal.offset_bounds-words-at
 offset_bounds-words-at c = omega (arith, within c.requires.0.site)
@@ -39,7 +39,7 @@ pub returns : goal.returns
 returns c =
     let p = c.requires in
     half_paired p.0 _ _ _ _ _ _ _ _ p.1 c.frames_of-h.ensures (c.fits.ensures c.if-not-fits.false).1 refl
-    (rw c.none.ensures at c.push.ensures) (rw c.none-2.ensures at c.turn.ensures) c.later.ensures
+    (rw (c.from-kind.ensures, c.none.ensures) at c.push.ensures) (rw (c.from-kind.ensures, c.none-2.ensures) at c.turn.ensures) c.later.ensures
 
 pub returns-then-not-fits : goal.returns-then-not-fits
 returns-then-not-fits c = neither refl refl

@@ -1,25 +1,26 @@
--- `strides::spent_value` meets its contract, by the laws of Pausing.
+-- `strides::spent_value` meets its contract, by the laws of Pausing, Settling, FrameKinds.
+use mathlib.Core.Path.{refl}
 use native.Mathlib.Omega.{arith}
 use Rattle.strides.specs.Strides.{Awaits}
+use Rattle.moves.proofs.FrameKinds.{late_told, paid_told}
 use Rattle.strides.proofs.Pausing.{pause_ends, value_ends, value_spent}
-use Rattle.strides.proofs.Settling.{returning_here}
-use Rattle.strides.proofs.Striding.{kind_is}
+use Rattle.strides.proofs.Settling.{returning_here, returning_told}
 use Rattle.strides.proofs.spent_value.Goals as goal
 
 pub returns-then-g-eq0 : goal.returns-then-g-eq0
 returns-then-g-eq0 c =
     value_ends c.requires.0 c.requires.1 c.if-g-eq0.true
 
-pub returns-then-kind-lt-PROMOTED_LEFT : goal.returns-then-kind-lt-PROMOTED_LEFT
-returns-then-kind-lt-PROMOTED_LEFT c =
-    value_spent c.requires.0 c.requires.2 (returning_here c.requires.0 c.requires.1 (omega arith) c.kind_at-kind.ensures) c.if-kind-lt-PROMOTED_LEFT.true c.seat_of.ensures _ c.spent.ensures
-
-pub returns-then-kind-eq-PROMOTED_LEFT : goal.returns-then-kind-eq-PROMOTED_LEFT
+pub returns-in-PromotedLeft : goal.returns-in-PromotedLeft
 unfolding Awaits
-returns-then-kind-eq-PROMOTED_LEFT c =
-    pause_ends _ (λ e. cc) (kind_is (returning_here c.requires.0 c.requires.1 (omega arith) c.kind_at-kind.ensures) 7 c.if-kind-eq-PROMOTED_LEFT.true)
+returns-in-PromotedLeft c =
+    pause_ends _ (λ e. cc) (returning_told c.requires.0 c.requires.1 (omega arith) c.kind_at.ensures c.in-PromotedLeft.is (λ i. cc))
 
-pub returns-else-kind-eq-PROMOTED_LEFT : goal.returns-else-kind-eq-PROMOTED_LEFT
+pub returns-in-PromotedRight : goal.returns-in-PromotedRight
 unfolding Awaits
-returns-else-kind-eq-PROMOTED_LEFT c =
-    pause_ends _ (λ e. cc) (returning_here c.requires.0 c.requires.1 (omega arith) c.kind_at-kind.ensures, omega (arith, c.if-kind-eq-PROMOTED_LEFT.false, c.if-kind-lt-PROMOTED_LEFT.false))
+returns-in-PromotedRight c =
+    pause_ends _ (λ e. cc) (returning_here c.requires.0 c.requires.1 (omega arith) refl, late_told c.kind_at.ensures c.in-PromotedRight.is)
+
+pub returns-in_default : goal.returns-in_default
+returns-in_default c =
+    value_spent c.requires.0 c.requires.2 (returning_here c.requires.0 c.requires.1 (omega arith) refl) (paid_told c.kind_at.ensures c.in_default.not-PromotedLeft c.in_default.not-PromotedRight) c.seat_of.ensures _ c.spent.ensures
