@@ -1,5 +1,5 @@
 -- What a node comes to, by its tag: the strides there, and the steps.
-use Prim.Native.Nat.{ℕ, ◌+◌}
+use Prim.Native.Nat.{ℕ, ◌+◌, ◌<◌}
 use mathlib.Core.Path.{◌≡◌, refl, ap}
 use mathlib.Core.List.{List}
 use native.Mathlib.Omega.{arith}
@@ -7,7 +7,7 @@ use lib.ListN.{length, get_or}
 use Rattle.std.specs.Prelude.{Option, Some, None, Result, Ok, Err}
 use Rattle.std.specs.Option.{ok_or}
 use Rattle.table.specs.declared.Node.TheVariants.{Call}
-use Rattle.table.specs.Words.{start_of, b_at, c_at}
+use Rattle.table.specs.Words.{arity_at, start_of, b_at, c_at}
 use Rattle.table.specs.Nodes.{node_of, node_at}
 use Rattle.frames.specs.declared.Seat.{Seat}
 use Rattle.moves.specs.declared.Control.{Control}
@@ -25,11 +25,21 @@ use Rattle.compact.specs.declared.Progress.{Progress}
 use Rattle.compact.specs.declared.Progress.TheVariants.{Go}
 use Rattle.compact.specs.Compact.{full, step_of, Paced, PacedBy, Transits, later_of}
 use Rattle.compact.proofs.Keeping.{later_transits}
-use Rattle.strides.specs.Strides.{body_of, Strides, Evaluating, Jumps, Paired, whole, half, neither, Calls, alone, given, Opens, operand, condition, binding, argument, Struck, jumps, enters, reads, halves, opens}
+use Rattle.strides.specs.Strides.{body_of, Strides, Evaluating, Jumps, Paired, whole, half, neither, Calls, alone, given, Opens, operand, condition, binding, argument, Half, Jump, OrOpened}
 use Rattle.operands.specs.Operands.{leaf_at}
 use Rattle.strides.proofs.Settling.{site_tag, site_stands, site_framed, leaf_stepped}
 use Rattle.strides.proofs.Calls.{f_is}
 use Rattle.strides.proofs.Striding.{tagged, jump_strides, half_strides, one_strides}
+
+-- WHAT A NODE COMES TO: it jumps; a call with no arguments is entered; a constant or a local has its value; an arithmetic's frame is written with its
+-- left operand; or a frame is to be opened by a step
+pub data Struck (w ws ls : List ℕ) (g : Compact) (seat : Seat) (at : ℕ) (ws' ls' : List ℕ) (r : Result Compact Kind) : Type 0 where
+  jumps : (next : Compact) → r ≡ Ok next → ws' ≡ ws → Jump w ls g seat ls' next → Struck w ws ls g seat at ws' ls' r
+  enters : get_or w at 0 ≡ 5 → arity_at w (get_or w (at + 1) 0) ≡ 0 → ws' ≡ ws → ls' ≡ ls → r ≡ Ok (later_of g (Eval (body_of (get_or w (at + 1) 0) 0)) g.depth 1)
+      → Struck w ws ls g seat at ws' ls' r
+  reads : get_or w at 0 < 2 → ws' ≡ ws → ls' ≡ ls → r ≡ Ok (later_of g (Ret (leaf_at w at ls 0)) g.depth 1) → Struck w ws ls g seat at ws' ls' r
+  halves : (next : Compact) → r ≡ Ok next → ls' ≡ ls → get_or w at 0 ≡ 2 → Half w ws ls g seat ws' next → Struck w ws ls g seat at ws' ls' r
+  opens : (kind : Kind) → r ≡ Err kind → ws' ≡ ws → ls' ≡ ls → Opens w at kind → Struck w ws ls g seat at ws' ls' r
 
 -- BY ITS TAG
 module _ {w ws ls : List ℕ} {g : Compact} {seat : Seat} {at : ℕ} where
@@ -112,3 +122,12 @@ module _ {w ws ls : List ℕ} {plan : Plan} {g : Compact} {seat : Seat} {start a
     struck_opened {ws'} long {r} u =
         let x = struck_opens s e in
         rw x.1 (opens_strides x.2 ws' (rw x.0 at long) r (rw (x.0, x.1) at u))
+
+  pub struck_asks : (kind : Kind) {ws₁ ls₁ : List ℕ} {r : Option Compact} → Struck w ws ls g seat at ws₁ ls₁ (ok_or r kind) → r ≡ None
+      → Framed ws₁ ls₁ (full g) seat × Paced plan g × Paid plan (full g)
+  struck_asks kind s e = struck_framed s (ap (λ o. ok_or o kind) e)
+
+  pub struck_made : (kind : Kind) {ws₁ ls₁ : List ℕ} (r : Option Compact) → Struck w ws ls g seat at ws₁ ls₁ (ok_or r kind) → {ws' : List ℕ} → length ws' ≡ length ws₁
+      → {p : Progress} → OrOpened ws₁ ls₁ plan g seat kind r ws' p → Strides w ws ls plan g ws' ls₁ p
+  struck_made kind (Some next) s long u = rw (u.0, u.1) (struck_goes s refl)
+  struck_made kind None s long u = struck_opened s refl long u

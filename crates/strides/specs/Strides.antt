@@ -1,5 +1,5 @@
 -- What a stride tells: it is one step of the definition, or several at once. And what the functions under it tell.
-use Rattle.std.specs.Prelude.{ℕ, ◌+◌, ◌*◌, ◌/◌, ◌≤◌, ◌<◌, ◌≡◌, true, false, ◌&&◌, List, length, get_or, take, ltb, leb, Option, Some, None, Result, Ok, Err}
+use Rattle.std.specs.Prelude.{ℕ, ◌+◌, ◌*◌, ◌/◌, ◌≤◌, ◌<◌, ◌≡◌, true, false, ◌&&◌, List, length, get_or, take, ltb, leb, Option, Some, None, MatchOption}
 use Rattle.schedule.specs.FrameMachine.{return}
 use Rattle.schedule.specs.Algebra.{spans}
 use Rattle.schedule.specs.Machine.{ongoing}
@@ -19,8 +19,8 @@ use Rattle.moves.specs.declared.Plan.{Plan}
 use Rattle.frames.specs.declared.Seat.{Seat}
 use Rattle.moves.specs.declared.Step.{Step}
 use Rattle.moves.specs.declared.Step.TheVariants as step
-use Rattle.moves.specs.Layout.{code_at, control_of, state_of}
-use Rattle.moves.specs.Ready.{Stands, Controlled, Paid, Kept, Ready, Spared, Advanced}
+use Rattle.moves.specs.Layout.{word_of, code_at, control_of, state_of}
+use Rattle.moves.specs.Ready.{Stands, Controlled, Paid, Kept, Ready, Spared, Advanced, Opened}
 use Rattle.compact.specs.declared.Compact.{Compact}
 use Rattle.compact.specs.declared.Progress.{Progress}
 use Rattle.compact.specs.declared.Event.{Event}
@@ -181,15 +181,10 @@ pub data Opens (w : List ℕ) (at : ℕ) (kind : Kind) : Type 0 where
   binding : get_or w at 0 ≡ 4 → kind ≡ Binding → Opens w at kind
   argument : get_or w at 0 ≡ 5 → 0 < arity_at w (get_or w (at + 1) 0) → kind ≡ Argument → Opens w at kind
 
--- WHAT A NODE COMES TO: it jumps; a call with no arguments is entered; a constant or a local has its value; an arithmetic's frame is written with its
--- left operand; or a frame is to be opened by a step
-pub data Struck (w ws ls : List ℕ) (g : Compact) (seat : Seat) (at : ℕ) (ws' ls' : List ℕ) (r : Result Compact Kind) : Type 0 where
-  jumps : (next : Compact) → r ≡ Ok next → ws' ≡ ws → Jump w ls g seat ls' next → Struck w ws ls g seat at ws' ls' r
-  enters : get_or w at 0 ≡ 5 → arity_at w (get_or w (at + 1) 0) ≡ 0 → ws' ≡ ws → ls' ≡ ls → r ≡ Ok (later_of g (Eval (body_of (get_or w (at + 1) 0) 0)) g.depth 1)
-      → Struck w ws ls g seat at ws' ls' r
-  reads : get_or w at 0 < 2 → ws' ≡ ws → ls' ≡ ls → r ≡ Ok (later_of g (Ret (leaf_at w at ls 0)) g.depth 1) → Struck w ws ls g seat at ws' ls' r
-  halves : (next : Compact) → r ≡ Ok next → ls' ≡ ls → get_or w at 0 ≡ 2 → Half w ws ls g seat ws' next → Struck w ws ls g seat at ws' ls' r
-  opens : (kind : Kind) → r ≡ Err kind → ws' ≡ ws → ls' ≡ ls → Opens w at kind → Struck w ws ls g seat at ws' ls' r
+-- A STRIDE, where it was made; else a step that opens a frame of this kind
+abbrev pub OrOpened : (ws ls : List ℕ) (plan : Plan) (g : Compact) (seat : Seat) → Kind → Option Compact → List ℕ → Progress → Type 0
+OrOpened ws ls plan g seat kind stride ws' r =
+    MatchOption stride (Opened ws ws' ls plan (full g) seat (word_of kind) g.oldest (step_of r) × PacedBy plan r × Transits g r) (λ next. (r ≡ Go next) × (ws' ≡ ws))
 
 -- its first child has the value x by k transitions
 pub record Led (w ls : List ℕ) (seat : Seat) (x k : ℕ) : Type 0 where

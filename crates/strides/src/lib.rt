@@ -7,12 +7,12 @@
 
 #![tactic(auto)]
 
-ghost use Rattle.std.specs.Prelude.{◌≡◌, cond, ◌+◌, ◌*◌, ◌/◌, ◌<◌, ◌≤◌, length, get_or, eqb};
+ghost use Rattle.std.specs.Prelude.{◌≡◌, None, cond, ◌+◌, ◌*◌, ◌/◌, ◌<◌, ◌≤◌, length, get_or, eqb};
 ghost use Rattle.table.specs.Words.{arity_at};
-ghost use Rattle.moves.specs.Ready.{Paid, Operand};
-ghost use Rattle.compact.specs.Compact.{full, later_of, Small};
+ghost use Rattle.moves.specs.Ready.{Framed, Operand, Paid};
+ghost use Rattle.compact.specs.Compact.{full, later_of, Small, Paced};
 ghost use Rattle.operands.specs.Operands.{cost_at};
-ghost use Rattle.strides.specs.Strides.{body_of, Strides, Frees, Awaits, Passes, Ends, Starts, Calm, Tagged, Evaluating, Jumps, Paired, Led, Calls, Struck, Rebounds, Returning};
+ghost use Rattle.strides.specs.Strides.{body_of, Strides, Frees, Awaits, Passes, Ends, Starts, Calm, Tagged, Evaluating, Jumps, Paired, Led, Calls, OrOpened, Rebounds, Returning};
 
 use compact::{Compact, Event, Pause, Progress};
 use frames::Seat;
@@ -308,29 +308,23 @@ fn call(
     }
 }
 
-// What a node leads to at once, by its tag, or else the kind of the frame that it opens by a step.
-fn strike(
-    words: &[u32],
-    start: usize,
-    at: usize,
-    seat: Seat,
+// The stride that was made, or else a step that opens a frame of this kind. Each kind of node calls it for itself: one match for all of them, at the end,
+// was slower.
+fn or_open(
+    stride: Option<Compact>,
     ws: &mut [u64],
-    locals: &mut [u64],
+    locals: &[u64],
+    plan: Plan,
     g: Compact,
-    tag: u32,
-) -> Result<Compact, Kind>
-    requires { (Tagged words.now locals.old g seat start at tag) × (tag < 6) × (length ws.old / 32 ≤ 4096) × (g.deepest ≤ length ws.old / 32) }
-    ensures { Struck words.now ws.old locals.old g seat at ws.new locals.new result }
+    seat: Seat,
+    kind: Kind,
+) -> Progress
+    requires { stride ≡ None → (Framed ws.old locals.now (full g) seat) × (Paced plan g) × (Paid plan (full g)) }
+    ensures { OrOpened ws.old locals.now plan g seat kind stride ws.new result }
 {
-    match tag {
-        ARITHMETIC => pair(words, start, at, seat, ws, locals, g).ok_or(Kind::LeftOperand),
-        CHOOSE => choose(words, start, at, seat, locals, g).ok_or(Kind::Condition),
-        LET => bind(words, start, at, seat, locals, g).ok_or(Kind::Binding),
-        CALL => call(words, start, at, seat, locals, g).ok_or(Kind::Argument),
-        _ => {
-            let v = operands::leaf(words, at, locals, 0);
-            Ok(compact::later(g, Control::Ret(v), g.depth, 1))
-        }
+    match stride {
+        Some(next) => Progress::Go(next),
+        None => compact::open(ws, locals, plan, g, seat, kind),
     }
 }
 
@@ -367,15 +361,31 @@ fn evaluate(
     requires { (Calm job.words.now ws.old locals.old plan g) × (g.control ≡ Control.Eval seat) × (Paid plan (full g)) }
     ensures { Passes job.entry.words.now ws.old locals.old plan g ws.new locals.new result }
 {
+    let words = job.words;
     let start = job.start(seat.function);
     let at = start + 4 * seat.node;
-    let tag = job.words[at];
-    if tag == BOTH {
-        return evaluate_both(job.words, start, at, ws, locals, plan, g, seat);
-    }
-    match strike(job.words, start, at, seat, ws, locals, g, tag) {
-        Ok(next) => Progress::Go(next),
-        Err(kind) => compact::open(ws, locals, plan, g, seat, kind),
+    match words[at] {
+        ARITHMETIC => {
+            let stride = pair(words, start, at, seat, ws, locals, g);
+            or_open(stride, ws, locals, plan, g, seat, Kind::LeftOperand)
+        }
+        CHOOSE => {
+            let stride = choose(words, start, at, seat, locals, g);
+            or_open(stride, ws, locals, plan, g, seat, Kind::Condition)
+        }
+        LET => {
+            let stride = bind(words, start, at, seat, locals, g);
+            or_open(stride, ws, locals, plan, g, seat, Kind::Binding)
+        }
+        CALL => {
+            let stride = call(words, start, at, seat, locals, g);
+            or_open(stride, ws, locals, plan, g, seat, Kind::Argument)
+        }
+        BOTH => evaluate_both(words, start, at, ws, locals, plan, g, seat),
+        _ => {
+            let v = operands::leaf(words, at, locals, 0);
+            Progress::Go(compact::later(g, Control::Ret(v), g.depth, 1))
+        }
     }
 }
 
