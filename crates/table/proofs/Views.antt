@@ -6,13 +6,14 @@ use mathlib.Core.Bool.{Bool, true, false, cond, true≢false}
 use lib.Dec.{ltb}
 use native.Mathlib.Omega.{arith}
 use borrow.Author.Tests.{ltb-true, leb-true, lt-ltb, le-ltb}
+use Rattle.std.specs.Prelude.{Option, Some, None}
+use Rattle.std.specs.Option.{option_map_or}
 use Rattle.table.specs.declared.Operation.{Operation}
-use Rattle.table.specs.declared.Operation.TheVariants.{Add, Subtract, Multiply, Divide, Remainder, Less, Equal}
 use Rattle.table.specs.declared.Node.{Node}
 use Rattle.table.specs.declared.Node.TheVariants.{Constant, Local, Arithmetic, Choose, Let, Call, Both, Unknown}
 use Rattle.table.specs.declared.Body.{Body}
 use Rattle.table.specs.Words.{functions, arity_at, tag_at, a_at, b_at, c_at}
-use Rattle.table.specs.Nodes.{arithmetic_of, node_of, node_at}
+use Rattle.table.specs.Nodes.{operation_of, arithmetic_of, node_of, node_at}
 use Rattle.table.specs.Walk.{known, unknown, unused_of, shape_of, call_shape}
 use Rattle.table.specs.WellFormed.{Subtree, root, Children, none, one, two, three, Assured, constant, local, arithmetic, choose, binding, call, both}
 use Rattle.table.proofs.Shapes.{Sound, sound}
@@ -28,16 +29,13 @@ data Read (a b c : ℕ) : Node → Type 0 where
   both_read : Read a b c (Both b c)
   unknown_read : Read a b c Unknown
 
-read_operation : (a b c operation : ℕ) → Read a b c (arithmetic_of operation b)
+read_operation : (a b c number : ℕ) → Read a b c (arithmetic_of number b)
 unfolding arithmetic_of
-read_operation a b c zero = arithmetic_read
-read_operation a b c (suc zero) = arithmetic_read
-read_operation a b c (suc (suc zero)) = arithmetic_read
-read_operation a b c (suc (suc (suc zero))) = arithmetic_read
-read_operation a b c (suc (suc (suc (suc zero)))) = arithmetic_read
-read_operation a b c (suc (suc (suc (suc (suc zero))))) = arithmetic_read
-read_operation a b c (suc (suc (suc (suc (suc (suc zero)))))) = arithmetic_read
-read_operation a b c (suc (suc (suc (suc (suc (suc (suc n))))))) = unknown_read
+read_operation a b c number = at (operation_of number)
+  where
+    at : (o : Option Operation) → Read a b c (option_map_or (λ o. Arithmetic o b) o Unknown)
+    at (Some o) = arithmetic_read
+    at None = unknown_read
 
 read_node : (tag a b c : ℕ) → Read a b c (node_of tag a b c)
 unfolding node_of
@@ -86,16 +84,13 @@ tag_for (Call f b c) = 5
 tag_for (Both b c) = 6
 tag_for Unknown = 7
 
-arithmetic_tag : (operation b : ℕ) → (arithmetic_of operation b ≡ Unknown → ⊥) → tag_for (arithmetic_of operation b) ≡ 2
+arithmetic_tag : (number b : ℕ) → (arithmetic_of number b ≡ Unknown → ⊥) → tag_for (arithmetic_of number b) ≡ 2
 unfolding arithmetic_of tag_for
-arithmetic_tag zero b h = refl
-arithmetic_tag (suc zero) b h = refl
-arithmetic_tag (suc (suc zero)) b h = refl
-arithmetic_tag (suc (suc (suc zero))) b h = refl
-arithmetic_tag (suc (suc (suc (suc zero)))) b h = refl
-arithmetic_tag (suc (suc (suc (suc (suc zero))))) b h = refl
-arithmetic_tag (suc (suc (suc (suc (suc (suc zero)))))) b h = refl
-arithmetic_tag (suc (suc (suc (suc (suc (suc (suc n))))))) b h = absurd (h refl)
+arithmetic_tag number b = at (operation_of number)
+  where
+    at : (o : Option Operation) → (option_map_or (λ o. Arithmetic o b) o Unknown ≡ Unknown → ⊥) → tag_for (option_map_or (λ o. Arithmetic o b) o Unknown) ≡ 2
+    at (Some o) h = refl
+    at None h = absurd (h refl)
 
 pub node_tag : (tag a b c : ℕ) → (node_of tag a b c ≡ Unknown → ⊥) → tag_for (node_of tag a b c) ≡ tag
 unfolding node_of tag_for
@@ -111,17 +106,15 @@ node_tag (suc (suc (suc (suc (suc (suc (suc t))))))) a b c h = absurd (h refl)
 -- what is assured of a node, by its tag; the second child stands at b and the third at c
 module _ (w : List ℕ) (body : Body) where
   module _ {level p k q : ℕ} where
-    arithmetic_of_lem : (operation b : ℕ) → Assured w body level p k q (arithmetic_of operation b)
-        → (o : Operation) × (arithmetic_of operation b ≡ Arithmetic o b) × Subtree w body (level + 1) (p + 1) k b × Subtree w body (level + 1) b k q
+    arithmetic_of_lem : (number b : ℕ) → Assured w body level p k q (arithmetic_of number b)
+        → (o : Operation) × (arithmetic_of number b ≡ Arithmetic o b) × Subtree w body (level + 1) (p + 1) k b × Subtree w body (level + 1) b k q
     unfolding arithmetic_of
-    arithmetic_of_lem zero b (arithmetic s t) = (Add, refl, s, t)
-    arithmetic_of_lem (suc zero) b (arithmetic s t) = (Subtract, refl, s, t)
-    arithmetic_of_lem (suc (suc zero)) b (arithmetic s t) = (Multiply, refl, s, t)
-    arithmetic_of_lem (suc (suc (suc zero))) b (arithmetic s t) = (Divide, refl, s, t)
-    arithmetic_of_lem (suc (suc (suc (suc zero)))) b (arithmetic s t) = (Remainder, refl, s, t)
-    arithmetic_of_lem (suc (suc (suc (suc (suc zero))))) b (arithmetic s t) = (Less, refl, s, t)
-    arithmetic_of_lem (suc (suc (suc (suc (suc (suc zero)))))) b (arithmetic s t) = (Equal, refl, s, t)
-    arithmetic_of_lem (suc (suc (suc (suc (suc (suc (suc _))))))) b x14 = elim x14 [ ]
+    arithmetic_of_lem number b = at (operation_of number)
+      where
+        at : (o : Option Operation) → Assured w body level p k q (option_map_or (λ o. Arithmetic o b) o Unknown)
+            → (x : Operation) × (option_map_or (λ o. Arithmetic o b) o Unknown ≡ Arithmetic x b) × Subtree w body (level + 1) (p + 1) k b × Subtree w body (level + 1) b k q
+        at (Some o) (arithmetic s t) = (o, refl, s, t)
+        at None a = elim a [ ]
 
     choose_of : {b c : ℕ} → Assured w body level p k q (Choose b c) → Subtree w body (level + 1) (p + 1) k b × Subtree w body (level + 1) b k c × Subtree w body (level + 1) c k q
     choose_of (choose s t u) = (s, t, u)

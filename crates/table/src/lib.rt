@@ -13,7 +13,7 @@ ghost use Rattle.table.specs.Read.{refused, refusal_of, header, entry, contents,
 ghost use Rattle.table.specs.WellFormed.{Header, Contents, Located, WellFormed};
 
 // 01, "Turned away by the input": the answer is the number with function and node.
-// Kept: the numbers 1 to 18 are no enum, what may not change: `refused`, `number_of` and theorem `Unchanged` speak of numbers, as 01 does.
+// Kept: the numbers 1 to 18 are no enum; what may not change: `refused`, `number_of` and theorem `Unchanged` speak of numbers, as 01 does.
 #[derive(Clone, Copy, Debug, PartialEq, Eq)]
 pub struct Refusal {
     pub number: u32,
@@ -78,6 +78,7 @@ pub struct Body {
 }
 
 // What the walk looks at in a node's own words.
+// Kept: `known` is a flag beside the rest; no plainer as an Option, because `walk_of` and `Subtree` read the last two of every shape.
 #[derive(Clone, Copy)]
 pub struct Shape {
     // The tag, the operation and the function are known.
@@ -151,6 +152,7 @@ pub fn node_at(words: &[u32], start: usize, p: usize) -> Node
 }
 
 // A function's arity, in the contents.
+// Kept: this and the next four differ in a constant; no plainer with a const parameter, because each is one index, named by what it reads.
 pub fn arity(words: &[u32], f: usize) -> usize
     requires { 2 * f + 1 < length words.now }
     ensures { result ≡ arity_at words.now f }
