@@ -238,6 +238,7 @@ fn joined(
 }
 
 // The free move that a pause awaits.
+#[tactic(auto, unfolding(crate::specs::Loop::event_of, crate::specs::Loop::Fits))]
 fn free(
     job: Job,
     ws: &mut [u64],
