@@ -1,6 +1,5 @@
 -- `strides::spent_value` meets its contract, by the laws of Pausing.
-use Prim.Native.Nat.{ℕ}
-use mathlib.Core.Path.{◌≡◌, sym, ◌∙◌}
+use mathlib.Core.Path.{sym, ◌∙◌}
 use native.Mathlib.Omega.{arith}
 use Rattle.strides.specs.Strides.{Awaits}
 use Rattle.strides.proofs.Pausing.{pause_ends, value_ends, value_spent}
