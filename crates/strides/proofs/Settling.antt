@@ -14,7 +14,7 @@ use Rattle.schedule.specs.Bounds.{BoundedState, Advances, measure_of}
 use Rattle.schedule.proofs.Bounds.{step_by_advances}
 use Rattle.schedule.proofs.Moves.{Move, closes, keeps_frame, turns, joins, turns_freely, joins_freely, is_value, is_halt, is_step, MoveView, move_view}
 use Rattle.language.specs.Language.{Code, language}
-use Rattle.frames.specs.Frames.{frame_value, frame_arguments, frame_before, frame_left}
+use Rattle.frames.specs.Frames.{frame_kind, frame_value, frame_arguments, frame_before, frame_left}
 use Rattle.table.specs.declared.Node.TheVariants.{Constant, Local, Both}
 use Rattle.table.specs.Words.{start_of, tag_at, a_at, b_at, c_at}
 use Rattle.table.specs.Nodes.{node_of, node_at}
@@ -174,6 +174,11 @@ module _ {w ws ls : List ℕ} {plan : Plan} {g : Compact} (c : Calm w ws ls plan
 -- a value returns to a frame
 pub returning_returns : {w ws ls : List ℕ} {plan : Plan} {g : Compact} {v top kind : ℕ} {s : Registers} → Returning w ws ls plan g v top kind → s ≡ full g → Returns w ws ls plan s v top kind
 returning_returns t e = rw e (record { ready = t.calm.starts.ready; is = t.is; depth = t.depth; of_kind = t.of_kind })
+
+-- at the newest frame, of the kind that was read there
+pub returning_here : {w ws ls : List ℕ} {plan : Plan} {g : Compact} {v top kind : ℕ} → Calm w ws ls plan g → g.control ≡ Ret v → g.depth ≡ top + 1 → kind ≡ frame_kind ws (32 * top)
+    → Returning w ws ls plan g v top kind
+returning_here c e d k = record { calm = c; is = e; depth = d; of_kind = sym k }
 
 -- WHICH EVENT a free move is
 module _ {w ws ls : List ℕ} {plan : Plan} {g : Compact} where

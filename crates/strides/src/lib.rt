@@ -186,6 +186,8 @@ fn bind(
 }
 
 // A call of f with one argument, which is simple.
+// Kept: a function for each number of arguments. No plainer, because one loop over them would carry their costs, frames and values in arrays, and
+// what a call leads to is stated of `operands` for each number (`call_one_leads`, `call_two_leads`, `call_three_leads`).
 fn call_one(
     words: &[u32],
     start: usize,
