@@ -44,6 +44,10 @@ use Rattle.machine.specs.Workspace.{left_by}
 use Rattle.machine.specs.Runs.{Suits, Tells}
 use Rattle.machine.specs.Written.{Wrote, Lends, cleared_to, cleared_by, StopToldLent}
 
+pub wrote_with : (w from arguments : List ℕ) (size : ℕ) (plan : Plan) (graph : List ℕ) (words : ℕ) (graph' : List ℕ) → from ≡ arguments
+    → Wrote w from size plan graph words graph' → Wrote w arguments size plan graph words graph'
+wrote_with w from arguments size plan graph words graph' e h = rw e at h
+
 -- WHAT A MACHINE WRITES. `asked` are the words of the workspace that the check was told of
 module _ (w arguments : List ℕ) (fuel N τ size asked : ℕ) (read : Reading) (told : read ≡ checked_of w (length arguments) fuel N τ asked) (same : asked ≡ size) where
   checked_so : checked_of w (length arguments) fuel N τ size ≡ read
