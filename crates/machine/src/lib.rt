@@ -176,6 +176,7 @@ fn onward(job: Job, ws: &mut [u64], locals: &mut [u64], plan: Plan, from: Compac
 }
 
 // A promotion, with its words of the graph before it; so in the moves below. n is the number of words so far.
+// Kept: no plainer, because a struct of the lent buffer and n would have to promise at each call that it still holds the same buffer.
 fn promoted(
     words: &[u32],
     ws: &mut [u64],
@@ -260,6 +261,7 @@ fn joined(
 }
 
 // The free move that a pause awaits.
+#[tactic(auto, unfolding(crate::specs::Loop::event_of, crate::specs::Loop::Fits))]
 fn free(
     job: Job,
     ws: &mut [u64],

@@ -175,16 +175,6 @@ module _ {w ws ls : List ℕ} {plan : Plan} {s : Registers} {v t kind : ℕ} (q 
     oldest_turned a c m = oldest_other ws ws' t (sym turned_words.below) s.oldest small (oldest_under ws t s.oldest oldest_here (λ z. a (sym q.of_kind ∙ z))) (λ x. c (sym turned_words.is_kind ∙ x))
         (λ x. oldest_here.past t (omega arith) (omega (arith, q.of_kind, m (omega (arith, turned_words.is_kind)))))
 
--- the last of the plain kinds
-low_kinds : (n : ℕ) → (n ≡ 0 → ⊥) → (n ≡ 1 → ⊥) → (n ≡ 2 → ⊥) → 3 ≤ n
-low_kinds n n0 n1 n2 = omega arith
-
-high_kinds : (n : ℕ) → 3 ≤ n → (n ≡ 3 → ⊥) → (n ≡ 4 → ⊥) → (n ≡ 5 → ⊥) → n < 7 → n ≡ 6
-high_kinds n h n3 n4 n5 l = omega arith
-
-pub last_kind : (n : ℕ) → (n ≡ 0 → ⊥) → (n ≡ 1 → ⊥) → (n ≡ 2 → ⊥) → (n ≡ 3 → ⊥) → (n ≡ 4 → ⊥) → (n ≡ 5 → ⊥) → n < 7 → n ≡ 6
-last_kind n n0 n1 n2 n3 n4 n5 l = high_kinds n (low_kinds n n0 n1 n2) n3 n4 n5 l
-
 -- an operation that gave a value, and one that failed
 value_only : (f p z : ℕ) (c : prelude.Result ℕ Failure) → Ok z ≡ placed_result f p c → result c ≡ close (return z)
 unfolding placed_result result

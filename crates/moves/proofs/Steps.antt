@@ -16,8 +16,7 @@ use Rattle.schedule.specs.Machine.{RunCounts}
 use Rattle.table.specs.declared.Operation.{Operation}
 use Rattle.table.specs.declared.Node.{Node}
 use Rattle.table.specs.declared.Node.TheVariants.{Constant, Local, Arithmetic, Choose, Let, Call, Both, Unknown}
-use Rattle.table.specs.Words.{functions, arity_at, start_of, tag_at, a_at}
-use Rattle.table.specs.WellFormed.{WellFormed}
+use Rattle.table.specs.Words.{arity_at, start_of, tag_at, a_at}
 use Rattle.table.specs.Nodes.{node_at}
 use Rattle.table.proofs.Views.{tag_for}
 use Rattle.frames.specs.Frames.{frame_left, pushed}
@@ -93,13 +92,6 @@ module _ (w ws ls : List ℕ) (plan : Plan) (s : Registers) (r : Ready w ws ls p
     pub here : Stands w f p k
     unfolding Controlled
     here = rw e at r.kept.control
-
-    -- where its function's body starts
-    pub start_read : WellFormed w × (f < functions w)
-    start_read = (r.kept.table, here.function)
-
-    pub node_read : start_of w f + 4 * p + 4 ≤ length w
-    node_read = (inside w r.kept.table here).0
 
     abbrev code : Code
     code = record { function = f; node = p; locals = take k ls }

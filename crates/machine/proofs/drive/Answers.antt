@@ -10,9 +10,6 @@ pub loop-pause-init : goal.loop-pause-init
 loop-pause-init c =
     (running_first c.requires c.begin-from.ensures, tracking_first _ c.requires c.begin-from.ensures, refl)
 
-pub onward-reached-requires : goal.onward-reached-requires
-onward-reached-requires c = c.loop-pause.invariant.0.starts
-
 pub resolved-step-requires : goal.resolved-step-requires
 resolved-step-requires c = limit_awaits c.onward-reached.ensures
 
@@ -22,16 +19,6 @@ finish-requires c =
     let not = c.in_default.not-Paused in
     let x = end_next c.onward-reached.ensures c.resolved-step.ensures i.0 i.1 not in
     ((running_expands x.0).0, (running_expands x.0).1, running_counts x.0, small_end x.0 x.1, final _ x.2 x.3)
-
-pub shape_of-ws-in_default : goal.shape_of-ws-in_default
-shape_of-ws-in_default c = omega (arith, c.loop-pause.invariant.0.long, c.onward-reached.auto.ws)
-
-pub shape_of-locals-in_default : goal.shape_of-locals-in_default
-shape_of-locals-in_default c =
-    omega (arith, c.loop-pause.invariant.0.starts.ready.kept.sixteen, c.requires.sixteen, c.onward-reached.auto.locals)
-
-pub shape_of-graph-in_default : goal.shape_of-graph-in_default
-shape_of-graph-in_default c = omega (arith, c.loop-pause.invariant.2, c.finish.auto.graph)
 
 pub returns-in_default : goal.returns-in_default
 returns-in_default c =
@@ -52,18 +39,6 @@ finish-requires-in_default-end c =
     let x = pause_next c.onward-reached.ensures c.resolved-step.ensures i.0 i.1 _ c.in-Paused.is in
     let y = free_ends x.1 c.free-moved.ensures c.in_default-end.not-Free in
     ((running_expands x.0).0, (running_expands x.0).1, running_counts x.0, small_end x.0 y.0, final _ y.1 y.2)
-
-pub shape_of-ws-in_default-end : goal.shape_of-ws-in_default-end
-shape_of-ws-in_default-end c =
-    omega (arith, c.loop-pause.invariant.0.long, c.onward-reached.auto.ws, c.free-moved.auto.ws)
-
-pub shape_of-locals-in_default-end : goal.shape_of-locals-in_default-end
-shape_of-locals-in_default-end c =
-    omega (arith, c.loop-pause.invariant.0.starts.ready.kept.sixteen, c.requires.sixteen, c.onward-reached.auto.locals, c.free-moved.auto.locals)
-
-pub shape_of-graph-in_default-end : goal.shape_of-graph-in_default-end
-shape_of-graph-in_default-end c =
-    omega (arith, c.loop-pause.invariant.2, c.free-moved.auto.graph, c.finish-in_default-end.auto.graph)
 
 pub returns-in_default-end : goal.returns-in_default-end
 returns-in_default-end c =

@@ -6,9 +6,6 @@ use mathlib.Core.Path.{refl}
 use Rattle.std.proofs.Common.{rules}
 use Rattle.machine.proofs.forked.Goals as goal
 
-pub begin-more-requires : goal.begin-more-requires
-begin-more-requires c = c.requires.2 (search rules)
-
 pub fork-step-requires : goal.fork-step-requires
 fork-step-requires c =
     let x = c.begin-more.ensures in (marked_awaits x c.requires.0 (pause.Fork _) c.requires.1, rw (marked_alike x).0 (search rules))

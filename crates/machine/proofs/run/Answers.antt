@@ -1,17 +1,8 @@
 -- `machine::run` meets its contract.
 use Rattle.machine.proofs.Concluding.{wrote_with}
 use Rattle.machine.proofs.Machines.{copied, few, ran_with, zeroed}
-use mathlib.Core.Path.{◌∙◌}
 use native.Mathlib.Omega.{arith}
 use Rattle.machine.proofs.run.Goals as goal
-
-pub copy-requires : goal.copy-requires
-copy-requires c =
-    let room = few c.args.job.words.now c.args.arguments.now _ _ c.requires.0 in (omega (arith, c.requires.1), omega arith)
-
-pub drive-ran-requires : goal.drive-ran-requires
-drive-ran-requires c =
-    record { table = c.requires.0.table; limits = c.requires.0.limits; sixteen = c.copy.auto.dst ∙ c.requires.1; arguments = c.requires.0.count }
 
 pub returns : goal.returns
 returns c =
