@@ -1,8 +1,10 @@
 // What a free move writes of the cost graph (document 02, P1): words in the lent buffer, and their places in the move's frame.
 //
 // `words` is how many there are so far, and `pending` the transitions since the last of them. Where no word is lent nothing is written and nothing is kept,
-// so that a run without a buffer has one test more for a free move, and none for a transition. It has no bound on the two either, so the parameters are
-// not a `Written`, whose bounds are known beside a buffer alone.
+// so that a run without a buffer has one test more for a free move, and none for a transition.
+//
+// Kept: what may not change, that nothing is asked of such a run (`Markable` and `Small` only where `0 < length graph`). So the two counts come as they
+// are, and become a `Written`, whose bounds are a field, past the test.
 
 #![tactic(auto)]
 

@@ -13,7 +13,7 @@ use mathlib.Core.Bool.{Bool, true, false, ◌&&◌}
 use mathlib.Core.List.{List}
 use native.Mathlib.Omega.{arith}
 use lib.ListN.{length, take, drop, length-drop}
-use lib.Seq.{paste, take_at, take_all, length-take-le}
+use lib.Seq.{take_all, length-take-le}
 use lib.Dec.{leb}
 use borrow.Author.Tests.{leb-true, le-leb, lt-leb, eq-eqb, ne_eqb}
 use Rattle.schedule.proofs.Moves.{and_true}
@@ -55,11 +55,6 @@ module _ (w : List ℕ) (answer : Bool) (is : answer ≡ complete w) where
 
   pub has : answer ≡ true → Complete w
   has h = parts w (passes h)
-
--- a copy to the front, taken back
-pub front_of : (d s : List ℕ) (n : ℕ) → length s ≡ n → take n (paste d 0 s n) ≡ s
-front_of d s n h =
-    take_at (take n s) (drop (0 + n) d) n (length-take-le n s (omega (arith, h))) ∙ take_all n s (omega (arith, h))
 
 pub from_on : (w : List ℕ) (from : ℕ) → take (length w - from) (drop from w) ≡ drop from w
 from_on w from = take_all (length w - from) (drop from w) (simp length-drop (omega arith))

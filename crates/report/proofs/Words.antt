@@ -3,11 +3,11 @@
 use Prim.Native.Nat.{ℕ, zero, suc, ◌+◌, ◌*◌, ◌/◌, ◌≤◌, ◌<◌}
 use mathlib.Core.Path.{◌≡◌, refl, sym, ap, subst, ◌∙◌}
 use mathlib.Core.Bool.{Bool, true, false, cond}
-use mathlib.Core.List.{List, [], ◌∷◌}
+use mathlib.Core.List.{List, [], ◌∷◌, append-nil}
 use native.Mathlib.Omega.{arith}
 use native.Mathlib.Numerals.{add-one}
-use lib.ListN.{length, get_or, drop, set}
-use lib.Seq.{get_or-drop, paste, paste-suc}
+use lib.ListN.{length, get_or, drop, set, drop_of_length-le}
+use lib.Seq.{get_or-drop, paste, paste-suc, take_all}
 use lib.Dec.{eqb}
 use Rattle.report.specs.Input.{word_of, words_of, pairs_of, or_house}
 
@@ -50,6 +50,10 @@ pair_is (suc n) w zero l = refl
 pair_is (suc n) w (suc i) l =
     pair_is n (drop 2 w) i (omega (arith, l))
     ∙ sym (rw (get_or-late w 2 (2 * suc i) (2 * i) (omega arith), get_or-late w 2 (2 * suc i + 1) (2 * i + 1) (omega arith)))
+
+-- a copy of a whole list over one as long
+pub all_copied : (d s : List ℕ) (n : ℕ) → length d ≡ n → length s ≡ n → paste d 0 s n ≡ s
+all_copied d s n g h = rw (drop_of_length-le d {i = 0 + n} (omega (arith, g)), take_all n s (omega (arith, h))) (append-nil s)
 
 -- one word more of a copy to the front
 pub one_more : (d s : List ℕ) (i v : ℕ) → i < length d → i < length s → v ≡ get_or s i 0 → set (paste d 0 s i) i v ≡ paste d 0 s (i + 1)

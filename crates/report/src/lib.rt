@@ -5,8 +5,7 @@
 
 #![tactic(auto)]
 
-ghost use Rattle.std.specs.Prelude.{◌≡◌, ◌+◌, ◌*◌, ◌≤◌, ◌<◌, length, get_or, drop};
-ghost use Rattle.std.proofs.Math.Seq.{paste};
+ghost use Rattle.std.specs.Prelude.{◌≡◌, ◌+◌, ◌*◌, ◌≤◌, ◌<◌, length, get_or, take, drop};
 ghost use Rattle.io.specs.Counts.{IsPrefixLen as ByteCount};
 ghost use Rattle.report.specs.Input.{word_of, words_of, pairs_of, or_house, job_of, complete};
 ghost use Rattle.lines.specs.Buffer.{Wrote};
@@ -30,12 +29,12 @@ fn word(input: &[u8], at: usize) -> u32
     u32::from_le_bytes([input[at], input[at + 1], input[at + 2], input[at + 3]])
 }
 
-// The first n words of the input.
-fn unpack(input: &[u8], words: &mut [u32], n: usize)
-    requires { (4 * n ≤ length input.now) × (n ≤ length words.old) }
-    ensures { words.new ≡ paste words.old 0 (words_of input.now) n }
+// The first words of the input, as many as are asked for.
+fn unpack(input: &[u8], words: &mut [u32])
+    requires { 4 * length words.old ≤ length input.now }
+    ensures { words.new ≡ take (length words.old) (words_of input.now) }
 {
-    for i in 0..n {
+    for i in 0..words.len() {
         words[i] = word(input, 4 * i);
     }
 }
@@ -47,12 +46,12 @@ fn pair(low: u32, high: u32) -> u64
     u64::from(low) + 4294967296 * u64::from(high)
 }
 
-// The first `count` arguments, each as low then high word, after the first four words.
-fn load(words: &[u32], arguments: &mut [u64], count: usize)
-    requires { (4 + 2 * count ≤ length words.now) × (count ≤ length arguments.old) }
-    ensures { arguments.new ≡ paste arguments.old 0 (pairs_of count (drop 4 words.now)) count }
+// The first arguments, as many as are asked for, each as low then high word, after the first four words.
+fn load(words: &[u32], arguments: &mut [u64])
+    requires { 4 + 2 * length arguments.old ≤ length words.now }
+    ensures { arguments.new ≡ pairs_of (length arguments.old) (drop 4 words.now) }
 {
-    for i in 0..count {
+    for i in 0..arguments.len() {
         arguments[i] = pair(words[4 + 2 * i], words[5 + 2 * i]);
     }
 }
@@ -109,6 +108,7 @@ fn unreadable(out: &mut [u8]) -> usize
 }
 
 // The report on an input's words, in a buffer that has room for it.
+#[tactic(auto, using(crate::proofs::Telling::has))]
 fn report_words(words: &[u32], workspace: &mut [u64], out: &mut [u8]) -> usize
     requires { 512 ≤ length out.old }
     ensures { WordsReported words.now workspace.old out.old workspace.new out.new result }
@@ -118,15 +118,11 @@ fn report_words(words: &[u32], workspace: &mut [u64], out: &mut [u8]) -> usize
     }
     let count = words[3] as usize;
     let from = 4 + 2 * count;
-    let mut arguments = [0u64; 3];
-    load(words, &mut arguments, count);
+    let mut buffer = [0u64; 3];
+    let arguments = &mut buffer[..count];
+    load(words, arguments);
     let given = settings(words);
-    let answers = machine::all_three(
-        &words[from..],
-        &arguments[..count],
-        given,
-        workspace,
-    );
+    let answers = machine::all_three(&words[from..], arguments, given, workspace);
     let sequential = answers.sequential;
     let parallel = answers.parallel;
     let heartbeat = answers.heartbeat;
@@ -148,8 +144,8 @@ pub fn report(input: &[u8], workspace: &mut [u64], out: &mut [u8]) -> usize
     if length % 4 != 0 {
         return unreadable(out);
     }
-    let n = length / 4;
-    let mut words = [0u32; 16384];
-    unpack(input, &mut words, n);
-    report_words(&words[..n], workspace, out)
+    let mut buffer = [0u32; MOST / 4];
+    let words = &mut buffer[..length / 4];
+    unpack(input, words);
+    report_words(words, workspace, out)
 }
