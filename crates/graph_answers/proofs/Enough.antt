@@ -19,7 +19,7 @@ use Rattle.language.proofs.Values.{Ran, value_ran}
 use Rattle.graph_answers.specs.Answers.{graph_left}
 use Rattle.graph_answers.specs.AsWithout.{needed}
 use Rattle.graph_answers.specs.Buffer.{RanTo}
-use Rattle.graph_answers.specs.Enough.{Enough, EnoughByTransitions, EnoughByForks, OneStretch, SequentialOneStretch}
+use Rattle.graph_answers.specs.Enough.{Enough, EnoughByTransitions, EnoughByForks, SequentialOneStretch}
 use Rattle.graph_answers.proofs.AsWithout.{needed_is, as_without}
 use Rattle.graph_answers.proofs.Buffer.{buffer_left}
 use Rattle.graph_answers.proofs.Reported.{accepted}

@@ -29,7 +29,7 @@ use Rattle.compact.specs.declared.Progress.TheVariants.{Go, Free, Paused}
 use Rattle.compact.specs.declared.Pause.{Pause}
 use Rattle.compact.specs.declared.Pause.TheVariants as pause
 use Rattle.compact.specs.Compact.{full, step_of, Paced, PacedBy, Transits, later_of, Small, Roomy}
-use Rattle.operands.specs.Operands.{leaf_at, frames_of}
+use Rattle.operands.specs.Operands.{frames_of}
 
 -- SEVERAL STEPS of the definition, from the state that the words held to the one that they hold
 pub record Many (w ws ls : List ℕ) (plan : Plan) (s : Registers) (ws' ls' : List ℕ) (next : Registers) : Type 0 where

@@ -1,5 +1,5 @@
 -- `strides::ret` meets its contract, by the laws of Pausing, Settling, Striding, FrameKinds.
-use mathlib.Core.Path.{refl, sym, ◌∙◌}
+use mathlib.Core.Path.{refl}
 use native.Mathlib.Omega.{arith}
 use Rattle.strides.specs.Strides.{Awaits, made, pauses}
 use Rattle.moves.proofs.FrameKinds.{late_told}
