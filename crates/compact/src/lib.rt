@@ -2,7 +2,7 @@
 
 #![tactic(auto)]
 
-ghost use Rattle.std.specs.Prelude.{◌≡◌, true, ◌&&◌, ◌+◌, ◌<◌, ◌≤◌, ◌^◌, max, ltb, leb};
+ghost use Rattle.std.specs.Prelude.{◌≡◌, true, ◌&&◌, ◌+◌, ◌<◌, ◌≤◌, ◌^◌, ltb, leb};
 ghost use Rattle.moves.specs.Layout.{word_of};
 ghost use Rattle.moves.specs.Ready.{Framed, Paid, Opened};
 ghost use Rattle.compact.specs.Compact.{full, step_of, limit_of, Paced, PacedBy, limited_of, compact_of, GoesWith, Answers, settled_of, Settles, Forkless, kept_by, freed_by, Transits, later_of, Small, Roomy};
@@ -56,12 +56,6 @@ pub enum Progress {
     Paused(Pause),
     Value(u64),
     Halt(Stopped),
-}
-
-pub fn higher(a: usize, b: usize) -> usize
-    ensures { result ≡ max a b }
-{
-    if b <= a { a } else { b }
 }
 
 // The registers that compact ones stand for.
@@ -199,13 +193,6 @@ pub fn later(g: Compact, control: Control, depth: usize, k: u64) -> Compact
         transitions: g.transitions + k,
         ..g
     }
-}
-
-// Nothing comes of a stride.
-pub fn none() -> Progress
-    ensures { result ≡ Progress.Value 0 }
-{
-    Progress::Value(0)
 }
 
 // A frame is opened, by one step.
