@@ -308,8 +308,7 @@ fn call(
     }
 }
 
-// The stride that was made, or else a step that opens a frame of this kind. Each kind of node calls it for itself: one match for all of them, at the end,
-// was slower.
+// The stride that was made, or else a step that opens a frame of this kind.
 fn or_open(
     stride: Option<Compact>,
     ws: &mut [u64],
