@@ -25,6 +25,7 @@ pub struct Counts {
 }
 
 // 01, "Stopped by the run's state": "The answer is the number, function, node and transitions made." 02, P7: and the depth reached.
+// Kept: the number, what may not change: `StopListed`, `StopsAgree` and the C words tell numbers, as 01 does.
 #[derive(Clone, Copy)]
 pub struct Stop {
     pub number: u32,

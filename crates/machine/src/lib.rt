@@ -221,6 +221,7 @@ fn forked(
 }
 
 // A left value's arrival at a promoted fork.
+// Kept: no plainer as one function with `joined`, because what they call differs in what it writes, and each promises a move of its own.
 fn turned(
     job: Job,
     ws: &mut [u64],
@@ -241,6 +242,7 @@ fn turned(
 }
 
 // A right value's arrival there.
+// Kept: as at `turned`.
 fn joined(
     job: Job,
     ws: &mut [u64],

@@ -23,6 +23,7 @@ use table::Node;
 pub const NO_FORK: usize = 4096;
 
 // A node is evaluated, or a value returns.
+// Kept: no plainer as a Result, because neither is a failure of the other.
 #[derive(Clone, Copy)]
 pub enum Control {
     Eval(Seat),
@@ -46,6 +47,7 @@ pub struct Registers {
 }
 
 // A schedule by its two flags, with the run's settings. A period above the fuel is never reached.
+// Kept: no plainer, because `machine::Schedule` is the enum that a plan is made of, and a move asks of it `birth` alone, at a "both", or the period alone.
 #[derive(Clone, Copy)]
 pub struct Plan {
     pub birth: bool,
@@ -55,6 +57,8 @@ pub struct Plan {
 }
 
 // The number of a stop, with its function and node.
+// Kept: the number, what may not change: 01, "The answer is the number, function, node", and `StopListed` and `Listed` speak of numbers. And apart from
+// `table::Refusal`, which has the same fields: a stop may not stand for a refusal.
 #[derive(Clone, Copy)]
 pub struct Stopped {
     pub number: u32,

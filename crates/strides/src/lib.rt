@@ -20,6 +20,7 @@ use moves::{Control, Job, Kind, Plan, Step, Stopped};
 use schedule::Span;
 
 // The tags of the nodes that are no constant and no local.
+// Kept: no plainer, because the enum, `table::Node`, is made of all four words of a node, of which a stride reads the tag first and seldom all.
 const ARITHMETIC: u32 = 2;
 
 const CHOOSE: u32 = 3;

@@ -93,6 +93,7 @@ pub struct Shape {
 }
 
 // Where the walk of a subtree stops: the number, and the node that is told.
+// Kept: the number, as in `Refusal`.
 #[derive(Clone, Copy, Debug, PartialEq, Eq)]
 pub struct Fault {
     pub number: u32,
