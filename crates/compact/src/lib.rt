@@ -3,12 +3,11 @@
 #![tactic(auto)]
 
 ghost use Rattle.std.specs.Prelude.{◌≡◌, true, ◌&&◌, ◌+◌, ◌<◌, ◌≤◌, ◌^◌, ltb, leb};
-ghost use Rattle.moves.specs.Layout.{word_of};
 ghost use Rattle.moves.specs.Ready.{Framed, Paid, Opened};
 ghost use Rattle.compact.specs.Compact.{full, step_of, limit_of, Paced, PacedBy, limited_of, compact_of, GoesWith, Answers, settled_of, Settles, Forkless, kept_by, freed_by, Transits, later_of, Small, Roomy};
 
 use frames::Seat;
-use moves::{Control, Kind, Plan, Registers, Step, Stopped};
+use moves::{Control, Plan, Registers, Step, Stopped};
 use schedule::{Credits, Span};
 
 // The registers of a run by one counter. Credits and span are told by the transitions since the running machine's start.
@@ -202,10 +201,10 @@ pub fn open(
     plan: Plan,
     g: Compact,
     seat: Seat,
-    kind: Kind,
+    kind: u64,
 ) -> Progress
     requires { (Framed ws.old locals.now (full g) seat) × (Paced plan g) × (Paid plan (full g)) }
-    ensures { (Opened ws.old ws.new locals.now plan (full g) seat (word_of kind) g.oldest (step_of result)) × (PacedBy plan result) × (Transits g result) }
+    ensures { (Opened ws.old ws.new locals.now plan (full g) seat kind g.oldest (step_of result)) × (PacedBy plan result) × (Transits g result) }
 {
     let step = moves::open(ws, locals, plan, expand(g), seat, kind, g.oldest);
     keep(g, step)

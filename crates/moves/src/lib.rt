@@ -5,7 +5,7 @@
 ghost use Rattle.std.specs.Prelude.{◌≡◌, false, ◌&&◌, ◌+◌, ◌*◌, ◌/◌, ◌<◌, ◌≤◌, ◌^◌, max, length, ltb, leb};
 ghost use Rattle.table.specs.Words.{arity_at};
 ghost use Rattle.frames.specs.Frames.{frame_kind, frame_count, frame_value};
-ghost use Rattle.moves.specs.Layout.{word_of, kind_of, ticked, restarted, risen, oldest_with, oldest_without, halted};
+ghost use Rattle.moves.specs.Layout.{kind_of, ticked, restarted, risen, oldest_with, oldest_without, halted};
 ghost use Rattle.moves.specs.Ready.{Returns, Paid, Stepped, Ticks, Restarts, Framed, Opened, Forked, OpenedBoth, Sitting, Child, Operand, operation, Resumed, called_at, Concluded, Found, Promoted};
 
 mod job;
@@ -140,15 +140,15 @@ pub fn open(
     plan: Plan,
     s: Registers,
     seat: Seat,
-    kind: Kind,
+    kind: u64,
     oldest: usize,
 ) -> Step
     requires { (Framed ws.old locals.now s seat) × (Paid plan s) }
-    ensures { Opened ws.old ws.new locals.now plan s seat (word_of kind) oldest result }
+    ensures { Opened ws.old ws.new locals.now plan s seat kind oldest result }
 {
     if s.depth < ws.len() / frames::WORDS {
         let b = frames::WORDS * s.depth;
-        frames::push(ws, b, kind.into(), seat, locals, Span::none());
+        frames::push(ws, b, kind, seat, locals, Span::none());
         let up = rise(s);
         let node = seat.node + 1;
         let first = Control::Eval(Seat { node, ..seat });
@@ -197,7 +197,7 @@ pub fn evaluate_both(ws: &mut [u64], locals: &[u64], plan: Plan, s: Registers, s
     ensures { OpenedBoth ws.old ws.new locals.now plan s seat result }
 {
     let oldest = oldest_with(s.oldest, s.depth);
-    open(ws, locals, plan, s, seat, Kind::PlainLeft, oldest)
+    open(ws, locals, plan, s, seat, Kind::PlainLeft.into(), oldest)
 }
 
 // The second child of the node of the frame at b, or its third, with the frame's locals.
@@ -490,7 +490,7 @@ pub fn joined(
 }
 
 // The kind of frame d.
-pub fn kind_at(ws: &[u64], d: usize) -> Kind
+pub fn kind_of(ws: &[u64], d: usize) -> Kind
     requires { 32 * d + 32 ≤ length ws.now }
     ensures { result ≡ kind_of (frame_kind ws.now (32 * d)) }
 {
@@ -503,7 +503,7 @@ fn search(ws: &[u64], from: usize, depth: usize) -> usize
     ensures { Found ws.now from depth result }
 {
     for i in from..depth {
-        if kind_at(ws, i) == Kind::PlainLeft {
+        if kind_of(ws, i) == Kind::PlainLeft {
             return i;
         }
     }

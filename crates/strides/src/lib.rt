@@ -324,7 +324,7 @@ fn or_open(
 {
     match stride {
         Some(next) => Progress::Go(next),
-        None => compact::open(ws, locals, plan, g, seat, kind),
+        None => compact::open(ws, locals, plan, g, seat, kind.into()),
     }
 }
 
@@ -438,7 +438,7 @@ fn ret(job: Job, ws: &mut [u64], locals: &mut [u64], plan: Plan, g: Compact, v: 
     }
     let top = g.depth - 1;
     let s = compact::expand(g);
-    match moves::kind_at(ws, top) {
+    match moves::kind_of(ws, top) {
         Kind::LeftOperand => ret_left(job, ws, locals, plan, g, v, top),
         Kind::RightOperand => compact::keep(
             g,
@@ -597,7 +597,7 @@ fn spent_value(
         return Progress::Value(v);
     }
     let top = g.depth - 1;
-    match moves::kind_at(ws, top) {
+    match moves::kind_of(ws, top) {
         Kind::PromotedLeft => Progress::Paused(Pause::Turn(v, top)),
         Kind::PromotedRight => Progress::Paused(Pause::Join(v, top)),
         _ => spent(frames::seat_of(ws, frames::WORDS * top)),

@@ -11,10 +11,10 @@ pub returns-then-eq : goal.returns-then-eq
 returns-then-eq c = record {
   after = c.loop-i.auto.i;
   below = λ j a h k. c.loop-i.invariant j a k;
-  is = λ h. plain_told (sym c.kind_at.ensures ∙ same_true the_type (search rules) _ _ (sym c.if-eq.ensures));
+  is = λ h. plain_told (sym c.kind_of.ensures ∙ same_true the_type (search rules) _ _ (sym c.if-eq.ensures));
   none = λ h. absurd (omega (arith, c.loop-i-test.true));
 }
 
 pub loop-i-preserved : goal.loop-i-preserved
 loop-i-preserved c =
-    none_more c.loop-i.invariant (plain_tells (λ e. same_false the_type _ _ (sym c.if-eq.ensures) (c.kind_at.ensures ∙ e)))
+    none_more c.loop-i.invariant (plain_tells (λ e. same_false the_type _ _ (sym c.if-eq.ensures) (c.kind_of.ensures ∙ e)))

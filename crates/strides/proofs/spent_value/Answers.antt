@@ -14,13 +14,13 @@ returns-then-g-eq0 c =
 pub returns-in-PromotedLeft : goal.returns-in-PromotedLeft
 unfolding Awaits
 returns-in-PromotedLeft c =
-    pause_ends _ (λ e. cc) (returning_told c.requires.0 c.requires.1 (omega arith) c.kind_at.ensures c.in-PromotedLeft.is (λ i. cc))
+    pause_ends _ (λ e. cc) (returning_told c.requires.0 c.requires.1 (omega arith) c.kind_of.ensures c.in-PromotedLeft.is (λ i. cc))
 
 pub returns-in-PromotedRight : goal.returns-in-PromotedRight
 unfolding Awaits
 returns-in-PromotedRight c =
-    pause_ends _ (λ e. cc) (returning_here c.requires.0 c.requires.1 (omega arith) refl, late_told c.kind_at.ensures c.in-PromotedRight.is)
+    pause_ends _ (λ e. cc) (returning_here c.requires.0 c.requires.1 (omega arith) refl, late_told c.kind_of.ensures c.in-PromotedRight.is)
 
 pub returns-in_default : goal.returns-in_default
 returns-in_default c =
-    value_spent c.requires.0 c.requires.2 (returning_here c.requires.0 c.requires.1 (omega arith) refl) (paid_told c.kind_at.ensures c.in_default.not-PromotedLeft c.in_default.not-PromotedRight) c.seat_of.ensures _ c.spent.ensures
+    value_spent c.requires.0 c.requires.2 (returning_here c.requires.0 c.requires.1 (omega arith) refl) (paid_told c.kind_of.ensures c.in_default.not-PromotedLeft c.in_default.not-PromotedRight) c.seat_of.ensures _ c.spent.ensures
