@@ -13,7 +13,7 @@ told() { with "$edit" "$1"; ends 1 tests/edits/forms; wrote out "$edit: $2"; }
 told '/^# refused by/d' "no_nodes has no line '# refused by: NAME'"
 told 's/^# refused by: .*/# refused by: no_such_function/' 'no_nodes: no_such_function is neither a function of table nor a declaration of its proofs'
 told 's/^old: .*/old: words/' 'no_nodes: its text is not once in src/lib.rt: words'
-told '/^# no twin/d' "no_nodes needs a twin in tests/twins, or a line '# no twin: REASON', and not both"
+told 's/^# refused by/# no twin: a trial\n&/' "no_nodes needs a twin in tests/twins, or a line '# no twin: REASON', and not both"
 back "$edit"
 with tests/twins/table/body_runs_on.edit 's/^old: .*/old: if 64 < functions {/; s/^new: .*/new: if functions > 64 {/'
 ends 1 tests/edits/forms
@@ -66,7 +66,7 @@ wrote out 'table/level_65: NOT TRIED'
 
 # beside an edit that is refused, one that is not is not counted: with the prover, over what was proved last
 [ ! -d "$top/crates/table/out" ] || cp -R "$top/crates/table/out" crates/table/
-printf '# It changes nothing.\n# refused by: body_read\nfile: src/lib.rt\nold: if q == n {\nnew: if q == n + 0 {\n' > tests/edits/table/harmless.edit
+printf '# It changes nothing.\n# refused by: body_read\nfile: src/lib.rt\nold: if q == n =>\nnew: if q == n + 0 =>\n' > tests/edits/table/harmless.edit
 ends 1 tests/edits/run table/harmless table/no_nodes
 wrote out 'table/no_nodes: refused by entry_read' 'table/harmless: NOT REFUSED' '1 of 2 edits refused'
 mkdir -p tests/twins/table

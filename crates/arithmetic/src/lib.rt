@@ -1,4 +1,4 @@
-// The arithmetic of document 01: an operation on two 64-bit numbers gives a number, or the stop that ends the run.
+// The arithmetic of document 01 ("Values are unsigned 64-bit numbers"): an operation on two of them gives a number, or the stop that ends the run.
 //
 // `operate` answers for each operation as `computed` of specs/Operate.antt says. Nothing here is wider than 64 bits: the library asks
 // whether a sum or a product fits before it makes it.

@@ -17,8 +17,8 @@
 //
 // The words b + 7 and b + 29 to b + 31 are not used. What a kind means, and where each frame begins, is the machine's affair.
 //
-// Kept: no plainer, because a struct of the workspace and b would be made for a call or two: the functions above make seldom more for one frame, and
-// need to know what the whole workspace holds then. Each method that writes would promise besides that it keeps the reference.
+// Kept: a rule of the project (docs/DECISIONS.md, "A frame by its first word", from 02's P3): each function is given b beside the workspace, which is
+// lent and fixed memory.
 
 #![tactic(auto)]
 

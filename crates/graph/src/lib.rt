@@ -10,7 +10,7 @@ ghost use Rattle.std.specs.Prelude.{◌≡◌, ◌++◌, ◌+◌, ◌-◌, ◌�
 ghost use Rattle.graph.specs.Writing.{count_ended, stretched, lent_ended, lent_forked, lent_filled};
 
 // The first word of a stretch, and of a fork.
-// Kept: what may not change, the words of 02's format (specs/Words.antt, `stretch` and `head`). They are written alone, and never matched on.
+// Kept: no plainer as an enum, because they are the words of 02's format, which are written and never matched on.
 const STRETCH: u32 = 0;
 
 const FORK: u32 = 1;

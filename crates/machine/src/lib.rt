@@ -33,7 +33,7 @@ use moves::{Control, Job, Plan, Registers};
 use schedule::{Span, Work};
 
 // The period of a machine that never promotes: above any fuel.
-// Kept: no plainer, because the moves compare the period of a `Plan` with the credits at each transition, and an `Option` there is one test more.
+// Kept: no plainer, because a plan has one period for all three machines, a number in `Flags` and `Suits`, and above any fuel it is never reached.
 const NEVER: u64 = u64::MAX;
 
 // The schedule by which a machine promotes forks: none; each at its birth; or the oldest plain one, N transitions after the running machine's

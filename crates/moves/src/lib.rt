@@ -18,8 +18,8 @@ use schedule::{Credits, Fuel, Span};
 use table::Node;
 
 // No plain fork: above every depth.
-// Kept: no plainer, because above every depth it makes `oldest < depth` and `oldest.min(depth)` whole answers; an Option would be matched before
-// each, and is a word more in the registers, which every stride copies.
+// Kept: no plainer, because above every depth it makes `oldest < depth` and `oldest.min(depth)` whole answers, and the definitions have 4096 for none
+// (`limit_of`, `oldest_without`).
 pub const NO_FORK: usize = 4096;
 
 // A node is evaluated, or a value returns.

@@ -52,8 +52,8 @@ pub record AllPublished (w arguments : List ℕ) (fuel N τ workspace : ℕ) : T
   pub figure_5 : Published parallel w arguments fuel N τ workspace (parallel_of w arguments fuel N τ workspace)
   pub figure_6 : Published (heartbeat N) w arguments fuel N τ workspace (heartbeat_of w arguments fuel N τ workspace)
 
--- THEOREM (proofs/Answers.antt, `demand_2`), for every table, arguments, fuel, N, τ and length of the workspace. Crate `machine` promises that its
--- three functions answer `sequential_of`, `parallel_of` and `heartbeat_of`.
+-- THEOREM (proofs/Answers.antt, `demand_2`), for every table, arguments, fuel, N, τ and length of the workspace. Crate `machine` promises that
+-- `Schedule::run` answers `answer_of` of its schedule, which is `sequential_of`, `parallel_of` or `heartbeat_of`.
 abbrev pub DemandTwo : Type 0
 DemandTwo = (w arguments : List ℕ) (fuel N τ workspace : ℕ) → AllPublished w arguments fuel N τ workspace
 

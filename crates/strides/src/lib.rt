@@ -20,7 +20,8 @@ use moves::{Control, Job, Kind, Plan, Step, Stopped};
 use schedule::Span;
 
 // The tags of the nodes that are no constant and no local.
-// Kept: no plainer, because the enum, `table::Node`, is made of all four words of a node, of which a stride reads the tag first and seldom all.
+// Kept: no plainer as an enum, because the one match on them, in `evaluate`, would come just after the conversion; `table::Node`, which is one, is made
+// of all four words of a node.
 const ARITHMETIC: u32 = 2;
 
 const CHOOSE: u32 = 3;

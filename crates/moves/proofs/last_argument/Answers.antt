@@ -1,4 +1,4 @@
--- `moves::last_argument` meets its contract, by the laws of Returning, Steps, Ticking.
+-- `moves::last_argument` meets its contract, by the laws of Returning, Ticking.
 use Rattle.moves.proofs.Returning.{room, few_here, stepped_last_argument}
 use Rattle.moves.proofs.Ticking.{ticks_go}
 use native.Mathlib.Omega.{arith}

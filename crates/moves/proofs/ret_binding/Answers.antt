@@ -1,4 +1,4 @@
--- `moves::ret_binding` meets its contract, by the laws of Returning, Steps, Ticking.
+-- `moves::ret_binding` meets its contract, by the laws of Returning, Ticking.
 use Rattle.frames.specs.Frames.{frame_count}
 use Rattle.moves.proofs.Returning.{sitting, binding_few, stepped_binding}
 use Rattle.moves.proofs.Ticking.{ticks_go}

@@ -1,4 +1,4 @@
--- `moves::ret_condition` meets its contract, by the laws of Returning, Steps, Ticking.
+-- `moves::ret_condition` meets its contract, by the laws of Returning, Ticking.
 use Rattle.moves.proofs.Returning.{sitting, stepped_condition}
 use Rattle.moves.proofs.Ticking.{ticks_go}
 use Rattle.moves.proofs.ret_condition.Goals as goal

@@ -1,4 +1,4 @@
--- `moves::ret_left_operand` meets its contract, by the laws of Returning, Steps, Ticking.
+-- `moves::ret_left_operand` meets its contract, by the laws of Returning, Ticking.
 use Rattle.moves.proofs.Returning.{sitting_turned, stepped_left_operand}
 use Rattle.moves.proofs.Ticking.{ticks_go}
 use Rattle.moves.proofs.ret_left_operand.Goals as goal

@@ -1,4 +1,4 @@
--- `moves::ret_plain_left` meets its contract, by the laws of Returning, Steps.
+-- `moves::ret_plain_left` meets its contract, by the laws of Returning.
 use Rattle.moves.proofs.Returning.{sitting_turned, stepped_plain_left}
 use Rattle.moves.proofs.ret_plain_left.Goals as goal
 

@@ -1,4 +1,4 @@
--- `moves::ret_plain_right` meets its contract, by the laws of Returning, Steps, Ticking.
+-- `moves::ret_plain_right` meets its contract, by the laws of Returning, Ticking.
 use Rattle.moves.proofs.Returning.{sitting, plain_few, stepped_plain_right}
 use Rattle.moves.proofs.Ticking.{ticks_go}
 use Rattle.moves.proofs.ret_plain_right.Goals as goal

@@ -1,4 +1,4 @@
--- `moves::ret_right_operand` meets its contract, by the laws of Returning, Steps, Ticking.
+-- `moves::ret_right_operand` meets its contract, by the laws of Returning, Ticking.
 use Rattle.moves.proofs.Returning.{operand, stepped_resumed}
 use Rattle.moves.proofs.Ticking.{ticks_resumed}
 use Rattle.moves.proofs.ret_right_operand.Goals as goal
