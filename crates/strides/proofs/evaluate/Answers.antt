@@ -18,11 +18,11 @@ overflow_mul-at c = omega (arith, word_inside c.requires.0 c.requires.1 c.start-
 pub overflow_add-at : goal.overflow_add-at
 overflow_add-at c = omega (arith, word_inside c.requires.0 c.requires.1 c.start-start.ensures)
 
-pub offset_bounds-words-at : goal.offset_bounds-words-at
-offset_bounds-words-at c = omega (arith, word_inside c.requires.0 c.requires.1 c.start-start.ensures)
+pub offset_bounds-site-at : goal.offset_bounds-site-at
+offset_bounds-site-at c = omega (arith, word_inside c.requires.0 c.requires.1 c.start-start.ensures)
 
-pub bounds-words-at : goal.bounds-words-at
-bounds-words-at c = omega (arith, word_inside c.requires.0 c.requires.1 c.start-start.ensures)
+pub bounds-site-at : goal.bounds-site-at
+bounds-site-at c = omega (arith, word_inside c.requires.0 c.requires.1 c.start-start.ensures)
 
 pub pair-stride-requires : goal.pair-stride-requires
 pair-stride-requires c =
