@@ -11,7 +11,7 @@ ghost use Rattle.std.specs.Prelude.{◌≡◌, None, cond, ◌+◌, ◌*◌, ◌
 ghost use Rattle.table.specs.Words.{arity_at};
 ghost use Rattle.moves.specs.Ready.{Framed, Operand, Paid};
 ghost use Rattle.compact.specs.Compact.{full, later_of, Small, Paced};
-ghost use Rattle.operands.specs.Operands.{cost_at};
+ghost use Rattle.operands.specs.Operands.{cost_at, leaf_at, LeafAt};
 ghost use Rattle.strides.specs.Strides.{body_of, Strides, Frees, Awaits, Passes, Ends, Starts, Calm, Tagged, Evaluating, Jumps, Paired, Led, Calls, OrOpened, Rebounds, Returning};
 
 mod site;
@@ -267,6 +267,15 @@ fn evaluate_both(site: Site, ws: &mut [u64], locals: &[u64], plan: Plan, g: Comp
     compact::settle(plan, step)
 }
 
+// A constant or a local: its value returns.
+fn read(site: Site, locals: &[u64], g: Compact) -> Compact
+    requires { (LeafAt site.words.now site.at locals.now 0) × (Small g) }
+    ensures { result ≡ later_of g (Control.Ret (leaf_at site.entry.words.now site.entry.at locals.now 0)) g.depth 1 }
+{
+    let v = operands::leaf(site.words, site.at, locals, 0);
+    compact::later(g, Control::Ret(v), g.depth, 1)
+}
+
 // Evaluates a node.
 fn evaluate(
     job: Job,
@@ -280,14 +289,13 @@ fn evaluate(
     ensures { Passes job.entry.words.now ws.old locals.old plan g ws.new locals.new result }
 {
     let start = job.start(seat.function);
-    let at = start + 4 * seat.node;
     let site = Site {
         words: job.words,
         seat,
         start,
-        at,
+        at: start + 4 * seat.node,
     };
-    match site.words[at] {
+    match site.words[site.at] {
         ARITHMETIC => {
             let stride = pair(site, ws, locals, g);
             or_open(stride, ws, locals, plan, g, seat, Kind::LeftOperand)
@@ -305,10 +313,7 @@ fn evaluate(
             or_open(stride, ws, locals, plan, g, seat, Kind::Argument)
         }
         BOTH => evaluate_both(site, ws, locals, plan, g),
-        _ => {
-            let v = operands::leaf(site.words, at, locals, 0);
-            Progress::Go(compact::later(g, Control::Ret(v), g.depth, 1))
-        }
+        _ => Progress::Go(read(site, locals, g)),
     }
 }
 
