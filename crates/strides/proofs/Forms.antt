@@ -25,12 +25,12 @@ use Rattle.moves.proofs.Nodes.{inside, arithmetic_in, operation_in, choose_in, l
 use Rattle.compact.specs.declared.Compact.{Compact}
 use Rattle.compact.specs.Compact.{later_of, Roomy}
 use Rattle.operands.specs.Operands.{numbered, cost_at, frames_of, simple_at, LeafAt, SimpleAt, CostAt}
-use Rattle.strides.specs.Strides.{Site, Tagged, code_of, Jump, Jumps, Paired, whole, half, neither, Led}
+use Rattle.strides.specs.Strides.{Sited, Tagged, code_of, Jump, Jumps, Paired, whole, half, neither, Led}
 use Rattle.operands.proofs.Leading.{arithmetic_leads, choose_leads, let_leads}
 use Rattle.operands.proofs.Operands.{cost_few, frames_few, two_node, cost_fits, leaf_fits, simple_fits, simple_leads}
 
 -- A NODE at its place, and its children there
-module _ (w ls : List ℕ) (g : Compact) (seat : Seat) (start at : ℕ) (site : Site w ls g seat start at) where
+module _ (w ls : List ℕ) (g : Compact) (seat : Seat) (start at : ℕ) (site : Sited w ls g seat start at) where
   there : (q a : ℕ) → a ≡ start + 4 * q → a ≡ start_of w seat.function + 4 * q
   there q a e = rw site.place at e
 
@@ -75,10 +75,10 @@ ok_is {r = Ok y} {x = x} e u v = let z : y ≡ x = cc in rw z at (sym e)
 ok_is {r = Err f} e u v = cc
 
 -- WHAT A FORM HAS IN COMMON with the others: its first child is looked at
-pub within : {w ls : List ℕ} {g : Compact} {seat : Seat} {start at : ℕ} → Site w ls g seat start at → at + 4 ≤ length w
+pub within : {w ls : List ℕ} {g : Compact} {seat : Seat} {start at : ℕ} → Sited w ls g seat start at → at + 4 ≤ length w
 within {w} {ls} {g} {seat} {start} {at} site = here_inside w ls g seat start at site
 
-pub first_few : {w ls : List ℕ} {g : Compact} {seat : Seat} {start at : ℕ} → Site w ls g seat start at → (k : ℕ) → k ≡ cost_at w (at + 4) → k ≤ 5
+pub first_few : {w ls : List ℕ} {g : Compact} {seat : Seat} {start at : ℕ} → Sited w ls g seat start at → (k : ℕ) → k ≡ cost_at w (at + 4) → k ≤ 5
 first_few {w} {ls} {g} {seat} {start} {at} site k e = rw e (cost_few w (at + 4))
 
 pub one_frame : (h k : ℕ) → h ≡ frames_of k → h ≤ 1
@@ -90,7 +90,7 @@ one_frame_of_two k l a b h e u v = omega (arith, one_frame a k e, one_frame b l 
 pub two_few : {w ls : List ℕ} {seat : Seat} {x k : ℕ} → Led w ls seat x k → (right l : ℕ) → l ≡ cost_at w right → k + l ≤ 10
 two_few {w} led right l e = omega (arith, led.few, cost_few w right)
 
-module _ {w ls : List ℕ} {g : Compact} {seat : Seat} {start at : ℕ} (site : Site w ls g seat start at) (t : Stands w seat.function (seat.node + 1) seat.count) where
+module _ {w ls : List ℕ} {g : Compact} {seat : Seat} {start at : ℕ} (site : Sited w ls g seat start at) (t : Stands w seat.function (seat.node + 1) seat.count) where
   pub first_cost : CostAt w (at + 4)
   first_cost = child_cost w ls g seat start at site (seat.node + 1) (at + 4) t (first_word w ls g seat start at site)
 
@@ -105,7 +105,7 @@ module _ {w ls : List ℕ} {g : Compact} {seat : Seat} {start at : ℕ} (site : 
   }
 
 -- a constant or a local
-pub leaf_here : {w ls : List ℕ} {g : Compact} {seat : Seat} {start at : ℕ} → Site w ls g seat start at → get_or w at 0 < 2 → LeafAt w at ls 0
+pub leaf_here : {w ls : List ℕ} {g : Compact} {seat : Seat} {start at : ℕ} → Sited w ls g seat start at → get_or w at 0 < 2 → LeafAt w at ls 0
 leaf_here {w} {ls} {g} {seat} {start} {at} site h =
     leaf_fits w seat.function site.table ls 0 site.stands at (here w ls g seat start at site) h (few_locals w ls g seat start at site)
 

@@ -107,7 +107,7 @@ pub record Ends (w ws ls : List ℕ) (plan : Plan) (g : Compact) (r : Progress) 
   pub stays : (next : Compact) → r ≡ Go next → ⊥
 
 -- A NODE that is evaluated, at the word `at` of the body that begins at `start`
-pub record Site (w ls : List ℕ) (g : Compact) (seat : Seat) (start at : ℕ) : Type 0 where
+pub record Sited (w ls : List ℕ) (g : Compact) (seat : Seat) (start at : ℕ) : Type 0 where
   pub table : WellFormed w
   pub stands : Stands w seat.function seat.node seat.count
   pub place : start ≡ start_of w seat.function
@@ -117,7 +117,7 @@ pub record Site (w ls : List ℕ) (g : Compact) (seat : Seat) (start at : ℕ) :
 
 -- of a tag
 pub record Tagged (w ls : List ℕ) (g : Compact) (seat : Seat) (start at tag : ℕ) : Type 0 where
-  pub site : Site w ls g seat start at
+  pub site : Sited w ls g seat start at
   pub is : get_or w at 0 ≡ tag
 
 pub record Evaluating (w ws ls : List ℕ) (plan : Plan) (g : Compact) (seat : Seat) (start at tag : ℕ) : Type 0 where

@@ -11,13 +11,16 @@ ghost use Rattle.std.specs.Prelude.{◌≡◌, None, cond, ◌+◌, ◌*◌, ◌
 ghost use Rattle.table.specs.Words.{arity_at};
 ghost use Rattle.moves.specs.Ready.{Framed, Operand, Paid};
 ghost use Rattle.compact.specs.Compact.{full, later_of, Small, Paced};
-ghost use Rattle.operands.specs.Operands.{cost_at};
+ghost use Rattle.operands.specs.Operands.{cost_at, leaf_at, LeafAt};
 ghost use Rattle.strides.specs.Strides.{body_of, Strides, Frees, Awaits, Passes, Ends, Starts, Calm, Tagged, Evaluating, Jumps, Paired, Led, Calls, OrOpened, Rebounds, Returning};
+
+mod site;
 
 use compact::{Compact, Event, Pause, Progress};
 use frames::Seat;
 use moves::{Control, Job, Kind, Plan, Step, Stopped};
 use schedule::Span;
+use site::Site;
 
 // The tags of the nodes that are no constant and no local.
 // Kept: no plainer as an enum, because the one match on them, in `evaluate`, would come just after the conversion; `table::Node`, which is one, is made
@@ -34,10 +37,7 @@ const BOTH: u32 = 6;
 
 // An arithmetic whose operands are both simple; the left one has the value x.
 fn whole(
-    words: &[u32],
-    start: usize,
-    at: usize,
-    seat: Seat,
+    site: Site,
     locals: &[u64],
     g: Compact,
     x: u64,
@@ -45,32 +45,22 @@ fn whole(
     right: usize,
     l: u64,
 ) -> Option<Compact>
-    requires { (Tagged words.now locals.now g seat start at 2) × (Led words.now locals.now seat x k) × (right ≡ start + 4 * get_or words.now (at + 2) 0) × (l ≡ cost_at words.now right) × (0 < l) }
-    ensures { Jumps words.now locals.now g seat locals.now result }
+    requires { (Tagged site.words.now locals.now g site.seat site.start site.at 2) × (Led site.words.now locals.now site.seat x k) × (right ≡ site.start + 4 * get_or site.words.now (site.at + 2) 0) × (l ≡ cost_at site.words.now right) × (0 < l) }
+    ensures { Jumps site.entry.words.now locals.now g site.entry.seat locals.now result }
 {
     let h = operands::frames_of(k).max(operands::frames_of(l)) + 1;
     if !compact::fits(g, k + l, 3, h) {
         return None;
     }
-    let y = operands::simple(words, right, locals, 0).ok()?;
-    let v = operands::operate(words[at + 1], x, y).ok()?;
+    let y = operands::simple(site.words, right, locals, 0).ok()?;
+    let v = operands::operate(site.words[site.at + 1], x, y).ok()?;
     Some(compact::later(g, Control::Ret(v), g.depth, k + l + 3))
 }
 
 // An arithmetic whose left operand is simple, and not the right one: its frame is written with the left operand's value x.
-fn half(
-    words: &[u32],
-    start: usize,
-    at: usize,
-    seat: Seat,
-    ws: &mut [u64],
-    locals: &[u64],
-    g: Compact,
-    x: u64,
-    k: u64,
-) -> Option<Compact>
-    requires { (Tagged words.now locals.now g seat start at 2) × (Led words.now locals.now seat x k) × (length ws.old / 32 ≤ 4096) × (g.deepest ≤ length ws.old / 32) }
-    ensures { Paired words.now ws.old locals.now g seat ws.new result }
+fn half(site: Site, ws: &mut [u64], locals: &[u64], g: Compact, x: u64, k: u64) -> Option<Compact>
+    requires { (Tagged site.words.now locals.now g site.seat site.start site.at 2) × (Led site.words.now locals.now site.seat x k) × (length ws.old / 32 ≤ 4096) × (g.deepest ≤ length ws.old / 32) }
+    ensures { Paired site.entry.words.now ws.old locals.now g site.entry.seat ws.new result }
 {
     let h = operands::frames_of(k) + 1;
     if !compact::fits(g, k, 2, h) {
@@ -78,56 +68,38 @@ fn half(
     }
     let kind = u64::from(Kind::RightOperand);
     let b = frames::WORDS * g.depth;
-    frames::push(ws, b, kind, seat, locals, Span::none());
+    frames::push(ws, b, kind, site.seat, locals, Span::none());
     frames::turn(ws, b, kind, x, Span::none());
-    let node = words[at + 2] as usize;
-    let right = Control::Eval(Seat { node, ..seat });
+    let node = site.words[site.at + 2] as usize;
+    let right = Control::Eval(Seat { node, ..site.seat });
     Some(compact::later(g, right, g.depth + 1, k + 2))
 }
 
 // An arithmetic whose left operand is simple and has the value x.
-fn paired(
-    words: &[u32],
-    start: usize,
-    at: usize,
-    seat: Seat,
-    ws: &mut [u64],
-    locals: &[u64],
-    g: Compact,
-    x: u64,
-    k: u64,
-) -> Option<Compact>
-    requires { (Tagged words.now locals.now g seat start at 2) × (Led words.now locals.now seat x k) × (length ws.old / 32 ≤ 4096) × (g.deepest ≤ length ws.old / 32) }
-    ensures { Paired words.now ws.old locals.now g seat ws.new result }
+fn paired(site: Site, ws: &mut [u64], locals: &[u64], g: Compact, x: u64, k: u64) -> Option<Compact>
+    requires { (Tagged site.words.now locals.now g site.seat site.start site.at 2) × (Led site.words.now locals.now site.seat x k) × (length ws.old / 32 ≤ 4096) × (g.deepest ≤ length ws.old / 32) }
+    ensures { Paired site.entry.words.now ws.old locals.now g site.entry.seat ws.new result }
 {
-    let right = start + 4 * words[at + 2] as usize;
-    let l = operands::cost(words, right);
+    let right = site.start + 4 * site.words[site.at + 2] as usize;
+    let l = operands::cost(site.words, right);
     if 0 < l {
-        whole(words, start, at, seat, locals, g, x, k, right, l)
+        whole(site, locals, g, x, k, right, l)
     } else {
-        half(words, start, at, seat, ws, locals, g, x, k)
+        half(site, ws, locals, g, x, k)
     }
 }
 
 // An arithmetic.
-fn pair(
-    words: &[u32],
-    start: usize,
-    at: usize,
-    seat: Seat,
-    ws: &mut [u64],
-    locals: &[u64],
-    g: Compact,
-) -> Option<Compact>
-    requires { (Tagged words.now locals.now g seat start at 2) × (length ws.old / 32 ≤ 4096) × (g.deepest ≤ length ws.old / 32) }
-    ensures { Paired words.now ws.old locals.now g seat ws.new result }
+fn pair(site: Site, ws: &mut [u64], locals: &[u64], g: Compact) -> Option<Compact>
+    requires { (Tagged site.words.now locals.now g site.seat site.start site.at 2) × (length ws.old / 32 ≤ 4096) × (g.deepest ≤ length ws.old / 32) }
+    ensures { Paired site.entry.words.now ws.old locals.now g site.entry.seat ws.new result }
 {
-    let k = operands::cost(words, at + 4);
+    let k = operands::cost(site.words, site.at + 4);
     if k == 0 {
         return None;
     }
-    let x = operands::simple(words, at + 4, locals, 0).ok()?;
-    paired(words, start, at, seat, ws, locals, g, x, k)
+    let x = operands::simple(site.words, site.at + 4, locals, 0).ok()?;
+    paired(site, ws, locals, g, x, k)
 }
 
 // The branch of a choose, by its condition.
@@ -144,49 +116,35 @@ fn branch(words: &[u32], at: usize, x: u64) -> usize
 }
 
 // A choose whose condition is simple: the branch is evaluated.
-fn choose(
-    words: &[u32],
-    start: usize,
-    at: usize,
-    seat: Seat,
-    locals: &[u64],
-    g: Compact,
-) -> Option<Compact>
-    requires { Tagged words.now locals.now g seat start at 3 }
-    ensures { Jumps words.now locals.now g seat locals.now result }
+fn choose(site: Site, locals: &[u64], g: Compact) -> Option<Compact>
+    requires { Tagged site.words.now locals.now g site.seat site.start site.at 3 }
+    ensures { Jumps site.entry.words.now locals.now g site.entry.seat locals.now result }
 {
-    let k = operands::cost(words, at + 4);
+    let k = operands::cost(site.words, site.at + 4);
     if !compact::fits(g, k, 2, operands::frames_of(k) + 1) {
         return None;
     }
-    let x = operands::simple(words, at + 4, locals, 0).ok()?;
-    let node = branch(words, at, x);
-    let taken = Control::Eval(Seat { node, ..seat });
+    let x = operands::simple(site.words, site.at + 4, locals, 0).ok()?;
+    let node = branch(site.words, site.at, x);
+    let taken = Control::Eval(Seat { node, ..site.seat });
     Some(compact::later(g, taken, g.depth, k + 2))
 }
 
 // A let whose first is simple: the second is evaluated with the value added.
-fn bind(
-    words: &[u32],
-    start: usize,
-    at: usize,
-    seat: Seat,
-    locals: &mut [u64],
-    g: Compact,
-) -> Option<Compact>
-    requires { Tagged words.now locals.old g seat start at 4 }
-    ensures { Jumps words.now locals.old g seat locals.new result }
+fn bind(site: Site, locals: &mut [u64], g: Compact) -> Option<Compact>
+    requires { Tagged site.words.now locals.old g site.seat site.start site.at 4 }
+    ensures { Jumps site.entry.words.now locals.old g site.entry.seat locals.new result }
 {
-    let k = operands::cost(words, at + 4);
+    let k = operands::cost(site.words, site.at + 4);
     if !compact::fits(g, k, 2, operands::frames_of(k) + 1) {
         return None;
     }
-    let x = operands::simple(words, at + 4, locals, 0).ok()?;
-    frames::append(locals, seat.count, x);
+    let x = operands::simple(site.words, site.at + 4, locals, 0).ok()?;
+    frames::append(locals, site.seat.count, x);
     let second = Seat {
-        node: words[at + 2] as usize,
-        count: seat.count + 1,
-        ..seat
+        node: site.words[site.at + 2] as usize,
+        count: site.seat.count + 1,
+        ..site.seat
     };
     Some(compact::later(g, Control::Eval(second), g.depth, k + 2))
 }
@@ -207,49 +165,33 @@ fn entered(g: Compact, f: usize, count: usize, k: u64) -> Compact
 // A call of f with one argument, which is simple.
 // Kept: a function for each number of arguments. No plainer, because one loop over them would carry their costs, frames and values in arrays, and
 // what a call leads to is stated of `operands` for each number (`call_one_leads`, `call_two_leads`, `call_three_leads`).
-fn call_one(
-    words: &[u32],
-    start: usize,
-    at: usize,
-    seat: Seat,
-    locals: &mut [u64],
-    g: Compact,
-    f: usize,
-) -> Option<Compact>
-    requires { (Tagged words.now locals.old g seat start at 5) × (f ≡ get_or words.now (at + 1) 0) × (arity_at words.now f ≡ 1) }
-    ensures { Jumps words.now locals.old g seat locals.new result }
+fn call_one(site: Site, locals: &mut [u64], g: Compact, f: usize) -> Option<Compact>
+    requires { (Tagged site.words.now locals.old g site.seat site.start site.at 5) × (f ≡ get_or site.words.now (site.at + 1) 0) × (arity_at site.words.now f ≡ 1) }
+    ensures { Jumps site.entry.words.now locals.old g site.entry.seat locals.new result }
 {
-    let k = operands::cost(words, at + 4);
+    let k = operands::cost(site.words, site.at + 4);
     if !compact::fits(g, k, 2, operands::frames_of(k) + 1) {
         return None;
     }
-    let x = operands::simple(words, at + 4, locals, 0).ok()?;
+    let x = operands::simple(site.words, site.at + 4, locals, 0).ok()?;
     frames::append(locals, 0, x);
     Some(entered(g, f, 1, k + 2))
 }
 
 // A call of f with two arguments, which are simple.
-fn call_two(
-    words: &[u32],
-    start: usize,
-    at: usize,
-    seat: Seat,
-    locals: &mut [u64],
-    g: Compact,
-    f: usize,
-) -> Option<Compact>
-    requires { (Tagged words.now locals.old g seat start at 5) × (f ≡ get_or words.now (at + 1) 0) × (arity_at words.now f ≡ 2) }
-    ensures { Jumps words.now locals.old g seat locals.new result }
+fn call_two(site: Site, locals: &mut [u64], g: Compact, f: usize) -> Option<Compact>
+    requires { (Tagged site.words.now locals.old g site.seat site.start site.at 5) × (f ≡ get_or site.words.now (site.at + 1) 0) × (arity_at site.words.now f ≡ 2) }
+    ensures { Jumps site.entry.words.now locals.old g site.entry.seat locals.new result }
 {
-    let two = start + 4 * words[at + 2] as usize;
-    let k = operands::cost(words, at + 4);
-    let l = operands::cost(words, two);
+    let two = site.start + 4 * site.words[site.at + 2] as usize;
+    let k = operands::cost(site.words, site.at + 4);
+    let l = operands::cost(site.words, two);
     let h = operands::frames_of(k).max(operands::frames_of(l)) + 1;
     if !compact::fits(g, operands::both(k, l), 3, h) {
         return None;
     }
-    let x = operands::simple(words, at + 4, locals, 0).ok()?;
-    let y = operands::simple(words, two, locals, 0).ok()?;
+    let x = operands::simple(site.words, site.at + 4, locals, 0).ok()?;
+    let y = operands::simple(site.words, two, locals, 0).ok()?;
     frames::append(locals, 0, x);
     frames::append(locals, 1, y);
     Some(entered(g, f, 2, k + l + 3))
@@ -257,31 +199,23 @@ fn call_two(
 
 // A call of f with three arguments, which are simple.
 #[tactic(auto, using(operands::proofs::Operands::cost_few))]
-fn call_three(
-    words: &[u32],
-    start: usize,
-    at: usize,
-    seat: Seat,
-    locals: &mut [u64],
-    g: Compact,
-    f: usize,
-) -> Option<Compact>
-    requires { (Tagged words.now locals.old g seat start at 5) × (f ≡ get_or words.now (at + 1) 0) × (arity_at words.now f ≡ 3) }
-    ensures { Jumps words.now locals.old g seat locals.new result }
+fn call_three(site: Site, locals: &mut [u64], g: Compact, f: usize) -> Option<Compact>
+    requires { (Tagged site.words.now locals.old g site.seat site.start site.at 5) × (f ≡ get_or site.words.now (site.at + 1) 0) × (arity_at site.words.now f ≡ 3) }
+    ensures { Jumps site.entry.words.now locals.old g site.entry.seat locals.new result }
 {
-    let two = start + 4 * words[at + 2] as usize;
-    let three = start + 4 * words[at + 3] as usize;
-    let k = operands::cost(words, at + 4);
-    let l = operands::cost(words, two);
-    let m = operands::cost(words, three);
+    let two = site.start + 4 * site.words[site.at + 2] as usize;
+    let three = site.start + 4 * site.words[site.at + 3] as usize;
+    let k = operands::cost(site.words, site.at + 4);
+    let l = operands::cost(site.words, two);
+    let m = operands::cost(site.words, three);
     let low = operands::frames_of(l).max(operands::frames_of(m));
     let h = operands::frames_of(k).max(low) + 1;
     if !compact::fits(g, operands::both(operands::both(k, l), m), 4, h) {
         return None;
     }
-    let x = operands::simple(words, at + 4, locals, 0).ok()?;
-    let y = operands::simple(words, two, locals, 0).ok()?;
-    let z = operands::simple(words, three, locals, 0).ok()?;
+    let x = operands::simple(site.words, site.at + 4, locals, 0).ok()?;
+    let y = operands::simple(site.words, two, locals, 0).ok()?;
+    let z = operands::simple(site.words, three, locals, 0).ok()?;
     frames::append(locals, 0, x);
     frames::append(locals, 1, y);
     frames::append(locals, 2, z);
@@ -289,23 +223,16 @@ fn call_three(
 }
 
 // A call, by its number of arguments.
-fn call(
-    words: &[u32],
-    start: usize,
-    at: usize,
-    seat: Seat,
-    locals: &mut [u64],
-    g: Compact,
-) -> Option<Compact>
-    requires { Tagged words.now locals.old g seat start at 5 }
-    ensures { Calls words.now locals.old g seat at locals.new result }
+fn call(site: Site, locals: &mut [u64], g: Compact) -> Option<Compact>
+    requires { Tagged site.words.now locals.old g site.seat site.start site.at 5 }
+    ensures { Calls site.entry.words.now locals.old g site.entry.seat site.entry.at locals.new result }
 {
-    let f = words[at + 1] as usize;
-    match table::arity(words, f) {
+    let f = site.words[site.at + 1] as usize;
+    match table::arity(site.words, f) {
         0 => Some(entered(g, f, 0, 1)),
-        1 => call_one(words, start, at, seat, locals, g, f),
-        2 => call_two(words, start, at, seat, locals, g, f),
-        3 => call_three(words, start, at, seat, locals, g, f),
+        1 => call_one(site, locals, g, f),
+        2 => call_two(site, locals, g, f),
+        3 => call_three(site, locals, g, f),
         _ => None,
     }
 }
@@ -330,24 +257,24 @@ fn or_open(
 }
 
 // Evaluates a "both": a plain fork. One that is promoted at its birth takes no transition.
-fn evaluate_both(
-    words: &[u32],
-    start: usize,
-    at: usize,
-    ws: &mut [u64],
-    locals: &[u64],
-    plan: Plan,
-    g: Compact,
-    seat: Seat,
-) -> Progress
-    requires { Evaluating words.now ws.old locals.now plan g seat start at 6 }
-    ensures { Passes words.now ws.old locals.now plan g ws.new locals.now result }
+fn evaluate_both(site: Site, ws: &mut [u64], locals: &[u64], plan: Plan, g: Compact) -> Progress
+    requires { Evaluating site.words.now ws.old locals.now plan g site.seat site.start site.at 6 }
+    ensures { Passes site.entry.words.now ws.old locals.now plan g ws.new locals.now result }
 {
     if plan.birth {
-        return Progress::Paused(Pause::Fork(seat));
+        return Progress::Paused(Pause::Fork(site.seat));
     }
-    let step = moves::evaluate_both(ws, locals, plan, compact::expand(g), seat);
+    let step = moves::evaluate_both(ws, locals, plan, compact::expand(g), site.seat);
     compact::settle(plan, step)
+}
+
+// A constant or a local: its value returns.
+fn read(site: Site, locals: &[u64], g: Compact) -> Compact
+    requires { (LeafAt site.words.now site.at locals.now 0) × (Small g) }
+    ensures { result ≡ later_of g (Control.Ret (leaf_at site.entry.words.now site.entry.at locals.now 0)) g.depth 1 }
+{
+    let v = operands::leaf(site.words, site.at, locals, 0);
+    compact::later(g, Control::Ret(v), g.depth, 1)
 }
 
 // Evaluates a node.
@@ -362,31 +289,32 @@ fn evaluate(
     requires { (Calm job.words.now ws.old locals.old plan g) × (g.control ≡ Control.Eval seat) × (Paid plan (full g)) }
     ensures { Passes job.entry.words.now ws.old locals.old plan g ws.new locals.new result }
 {
-    let words = job.words;
     let start = job.start(seat.function);
-    let at = start + 4 * seat.node;
-    match words[at] {
+    let site = Site {
+        words: job.words,
+        seat,
+        start,
+        at: start + 4 * seat.node,
+    };
+    match site.words[site.at] {
         ARITHMETIC => {
-            let stride = pair(words, start, at, seat, ws, locals, g);
+            let stride = pair(site, ws, locals, g);
             or_open(stride, ws, locals, plan, g, seat, Kind::LeftOperand)
         }
         CHOOSE => {
-            let stride = choose(words, start, at, seat, locals, g);
+            let stride = choose(site, locals, g);
             or_open(stride, ws, locals, plan, g, seat, Kind::Condition)
         }
         LET => {
-            let stride = bind(words, start, at, seat, locals, g);
+            let stride = bind(site, locals, g);
             or_open(stride, ws, locals, plan, g, seat, Kind::Binding)
         }
         CALL => {
-            let stride = call(words, start, at, seat, locals, g);
+            let stride = call(site, locals, g);
             or_open(stride, ws, locals, plan, g, seat, Kind::Argument)
         }
-        BOTH => evaluate_both(words, start, at, ws, locals, plan, g, seat),
-        _ => {
-            let v = operands::leaf(words, at, locals, 0);
-            Progress::Go(compact::later(g, Control::Ret(v), g.depth, 1))
-        }
+        BOTH => evaluate_both(site, ws, locals, plan, g),
+        _ => Progress::Go(read(site, locals, g)),
     }
 }
 

@@ -12,17 +12,17 @@ use Rattle.strides.proofs.evaluate.Goals as goal
 pub start-start-requires : goal.start-start-requires
 start-start-requires c = start_asked c.requires.0 c.requires.1
 
-pub overflow_mul-at : goal.overflow_mul-at
-overflow_mul-at c = omega (arith, word_inside c.requires.0 c.requires.1 c.start-start.ensures)
+pub overflow_mul-site : goal.overflow_mul-site
+overflow_mul-site c = omega (arith, word_inside c.requires.0 c.requires.1 c.start-start.ensures)
 
-pub overflow_add-at : goal.overflow_add-at
-overflow_add-at c = omega (arith, word_inside c.requires.0 c.requires.1 c.start-start.ensures)
+pub overflow_add-site : goal.overflow_add-site
+overflow_add-site c = omega (arith, word_inside c.requires.0 c.requires.1 c.start-start.ensures)
 
-pub offset_bounds-words-at : goal.offset_bounds-words-at
-offset_bounds-words-at c = omega (arith, word_inside c.requires.0 c.requires.1 c.start-start.ensures)
+pub offset_bounds-site-site : goal.offset_bounds-site-site
+offset_bounds-site-site c = omega (arith, word_inside c.requires.0 c.requires.1 c.start-start.ensures)
 
-pub bounds-words-at : goal.bounds-words-at
-bounds-words-at c = omega (arith, word_inside c.requires.0 c.requires.1 c.start-start.ensures)
+pub bounds-site-site : goal.bounds-site-site
+bounds-site-site c = omega (arith, word_inside c.requires.0 c.requires.1 c.start-start.ensures)
 
 pub pair-stride-requires : goal.pair-stride-requires
 pair-stride-requires c =
@@ -78,12 +78,12 @@ returns-in-5 c =
     let v = evaluating c.requires.0 c.requires.1 c.start-start.ensures c.requires.2 c.in-5.is in
     made (struck_made v Argument _ (call_strikes c.in-5.is c.call-stride.ensures refl) c.or_open-in-5.auto.ws c.or_open-in-5.ensures)
 
-pub leaf-v-requires : goal.leaf-v-requires
-leaf-v-requires c =
+pub read-requires : goal.read-requires
+read-requires c =
     let v = evaluating c.requires.0 c.requires.1 c.start-start.ensures c.requires.2 refl in
-    leaf_here (tagged v).site (omega (arith, tag_few c.requires.0 c.requires.1 c.start-start.ensures))
+    (leaf_here (tagged v).site (omega (arith, tag_few c.requires.0 c.requires.1 c.start-start.ensures)), (tagged v).site.small)
 
 pub returns-in_default : goal.returns-in_default
 returns-in_default c =
     let v = evaluating c.requires.0 c.requires.1 c.start-start.ensures c.requires.2 refl in
-    made (struck_goes v (reads (omega (arith, tag_few c.requires.0 c.requires.1 c.start-start.ensures)) refl refl (ap Ok (rw c.leaf-v.ensures at c.later.ensures))) refl)
+    made (struck_goes v (reads (omega (arith, tag_few c.requires.0 c.requires.1 c.start-start.ensures)) refl refl (ap Ok c.read.ensures)) refl)

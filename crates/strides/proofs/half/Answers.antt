@@ -26,11 +26,11 @@ turn-requires c = omega (arith, (c.fits.ensures c.if-not-fits.false).1.within)
 pub overflow_add-node : goal.overflow_add-node
 overflow_add-node c = omega (arith, within c.requires.0.site)
 
-pub offset_bounds-words-at : goal.offset_bounds-words-at
-offset_bounds-words-at c = omega (arith, within c.requires.0.site)
+pub offset_bounds-site-site : goal.offset_bounds-site-site
+offset_bounds-site-site c = omega (arith, within c.requires.0.site)
 
-pub bounds-words-at : goal.bounds-words-at
-bounds-words-at c = omega (arith, within c.requires.0.site)
+pub bounds-site-site : goal.bounds-site-site
+bounds-site-site c = omega (arith, within c.requires.0.site)
 
 pub later-requires : goal.later-requires
 later-requires c = (c.requires.0.site.small, omega (arith, c.requires.1.few))

@@ -7,11 +7,11 @@ use Rattle.strides.proofs.paired.Goals as goal
 pub overflow_add-right : goal.overflow_add-right
 overflow_add-right c = omega (arith, within c.requires.0.site)
 
-pub offset_bounds-words-at : goal.offset_bounds-words-at
-offset_bounds-words-at c = omega (arith, within c.requires.0.site)
+pub offset_bounds-site-site : goal.offset_bounds-site-site
+offset_bounds-site-site c = omega (arith, within c.requires.0.site)
 
-pub bounds-words-at : goal.bounds-words-at
-bounds-words-at c = omega (arith, within c.requires.0.site)
+pub bounds-site-site : goal.bounds-site-site
+bounds-site-site c = omega (arith, within c.requires.0.site)
 
 pub overflow_mul-right : goal.overflow_mul-right
 overflow_mul-right c = omega (arith, right_inside c.requires.0 _ refl)
