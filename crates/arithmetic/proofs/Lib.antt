@@ -1,2 +1,3 @@
--- Laws about the definitions of specs/: Cases for this crate's proofs, Results for other crates' too.
+-- Laws about the definitions of specs/, which this crate's proofs cite and other crates' may.
+pub mod Cases
 pub mod Results

@@ -87,6 +87,11 @@ module _ (w : List ℕ) (count fuel N τ W : ℕ) where
             ),
           )
 
+  -- what answers as the definition does keeps both promises
+  pub promised : (r : Reading) → r ≡ checked_of w count fuel N τ W
+      → (r ≡ checked_of w count fuel N τ W) × ((r ≡ Ok tt) ↔ Admitted w count fuel N τ W)
+  promised r e = (e, rw e checked_iff)
+
 -- one check after another, as code has it: the first refuses, or accepts and the second answers
 pub then_refuses : {a : Reading} (b : Reading) {r : Refusal} → Err r ≡ a → Err r ≡ (a then b)
 then_refuses b e = sym (then_stop _ b _ (sym e))

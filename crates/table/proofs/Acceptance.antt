@@ -12,7 +12,7 @@ use Rattle.std.specs.Prelude.{Ok, Err}
 use Rattle.table.specs.declared.Refusal.{Refusal}
 use Rattle.table.specs.Words.{functions, arity_at, nodes_at, nodes_before, start_of, body_at}
 use Rattle.table.specs.Walk.{Walked, Walks}
-use Rattle.table.specs.Read.{refused, ◌then◌, unless, header_test, header, entry_test, entry, exact, root_of, body_read, each, contents, bodies, read_of}
+use Rattle.table.specs.Read.{Reading, refused, ◌then◌, unless, header_test, header, entry_test, entry, exact, root_of, body_read, each, contents, bodies, read_of}
 use Rattle.table.specs.WellFormed.{Subtree, Header, Entry, Contents, WellFormed}
 use Rattle.table.proofs.InOrder.{then_iff, each_iff, then_stop, then_go}
 use Rattle.table.proofs.Trees.{walk_of_lem, tree_of}
@@ -131,3 +131,7 @@ module _ (w : List ℕ) where
   pub read_bodies : header w ≡ Ok tt → contents w ≡ Ok tt → bodies w ≡ read_of w
   unfolding read_of
   read_bodies h e = sym (then_go _ _ h ∙ then_go _ _ e)
+
+  -- what answers as the definition does keeps both promises
+  pub promised : (r : Reading) → r ≡ read_of w → (r ≡ read_of w) × ((r ≡ Ok tt) ↔ WellFormed w)
+  promised r e = (e, rw e read_iff)

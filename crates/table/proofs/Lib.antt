@@ -1,4 +1,5 @@
 -- Laws about the definitions of specs/, which this crate's proofs cite and other crates' may.
+pub mod Tags
 pub mod Shapes
 pub mod Walking
 pub mod Bodies

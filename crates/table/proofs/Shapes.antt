@@ -1,10 +1,10 @@
--- What a node's own words assure where no number refuses them.
-use Prim.Native.Nat.{ℕ, ◌≤◌}
+-- Which number refuses a node's own words, and what they assure where none does.
+use Prim.Native.Nat.{ℕ, ◌<◌, ◌≤◌}
 use mathlib.Core.Path.{◌≡◌, refl}
 use mathlib.Core.List.{List}
 use mathlib.Core.Bool.{Bool, true, false, cond}
 use lib.Dec.{leb, ltb}
-use borrow.Author.Tests.{leb-true}
+use borrow.Author.Tests.{not-true, not-false, le-leb, lt-leb, leb-true}
 use Rattle.std.specs.Prelude.{Option, Some, None}
 use Rattle.table.specs.declared.Node.{Node}
 use Rattle.table.specs.declared.Node.TheVariants.{Constant, Local, Arithmetic, Choose, Let, Call, Both, Unknown}
@@ -28,6 +28,26 @@ sound s level e = at s.known s.clear s.bound (leb level 64) refl refl refl refl 
     at true true false l p q r t e = absurd cc
     at true false z l p q r t e = absurd cc
     at false y z l p q r t e = absurd cc
+
+-- the number by what is looked at, in order
+module _ (s : Shape) (level : ℕ) where
+  pub number_unknown : s.known ≡ false → Some 4 ≡ number_of s level
+  number_unknown k = rw k
+
+  pub number_unused : s.known ≡ true → s.clear ≡ false → Some 16 ≡ number_of s level
+  number_unused k c = rw (k, c)
+
+  pub number_unbound : s.known ≡ true → s.clear ≡ true → s.bound ≡ false → Some 5 ≡ number_of s level
+  number_unbound k c b = rw (k, c, b)
+
+  pub number_deep : s.known ≡ true → s.clear ≡ true → s.bound ≡ true → 64 < level → Some 6 ≡ number_of s level
+  number_deep k c b l = rw (k, c, b, lt-leb level 64 l)
+
+  pub number_none : s.known ≡ true → s.clear ≡ true → s.bound ≡ true → level ≤ 64 → None ≡ number_of s level
+  number_none k c b l = rw (k, c, b, le-leb level 64 l)
+
+-- these laws, and what a negated test says
+pub ruleset numbers = (number_unknown, number_unused, number_unbound, number_deep, number_none, not-true, not-false)
 
 -- what a node binds stays within 16 locals
 module _ (w : List ℕ) (a b c k : ℕ) (few : k ≤ 16) where

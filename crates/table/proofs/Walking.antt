@@ -69,11 +69,11 @@ module _ (w : List ℕ) (body : Body) (level p k : ℕ) where
           at (suc zero) z = stops _ _ is (within (λ bound g. rw (z, ← f.same bound g)))
           at (suc (suc n)) z = stops _ _ is (within (λ bound g. rw (z, ← f.same bound g)))
 
-      module _ {m : ℕ} (f : Walks w body (level + 1) (p + 1) k (Ok m)) where
-        pub walks_one : s.children ≡ 1 → Walks w body level p k (Ok m)
-        unfolding children
-        walks_one z = record { same = within (λ bound g. rw z (f.same bound g)); moves = λ q u. omega (arith, f.moves q u) }
+      pub walks_one : {first : Walked} → Walks w body (level + 1) (p + 1) k first → s.children ≡ 1 → Walks w body level p k first
+      unfolding children
+      walks_one f z = record { same = within (λ bound g. rw z (f.same bound g)); moves = λ q u. omega (arith, f.moves q u) }
 
+      module _ {m : ℕ} (f : Walks w body (level + 1) (p + 1) k (Ok m)) where
         module _ {b : ℕ} (n0 : s.children ≡ 0 → ⊥) (n1 : s.children ≡ 1 → ⊥) (d : b ≡ b_at w body.start p) where
           pub walks_b : {r : Walked} → r ≡ fault_at 17 p → (b ≡ m → ⊥) → Walks w body level p k r
           unfolding children next
