@@ -2,7 +2,7 @@
 -- Assumes nothing.
 use Prim.Native.Nat.{ℕ, ◌≤◌, ◌<◌}
 use mathlib.Core.Path.{◌≡◌, sym, ap, ◌∙◌}
-use mathlib.Core.Bool.{true}
+use mathlib.Core.Bool.{true, false}
 use mathlib.Core.List.{List, [], ◌∷◌}
 use mathlib.Core.Logic.{◌⊎◌, inl, inr}
 use native.Mathlib.Omega.{arith}
@@ -30,16 +30,28 @@ use Rattle.capi.proofs.Serving.{serving, by_name}
 use Rattle.capi.proofs.Writing.{length_written, word_written}
 use Rattle.capi.proofs.Claims.{Front, nine, valued, stopped, shown, four_words, same_words, listed_words}
 
--- A CALL that is served
+-- A CALL is served or it is not
 module _ (machine : ℕ) (w arguments : List ℕ) (fuel N τ : ℕ) (ws graph out : List ℕ) where
-  pub told : (schedule : Schedule) (r : Graphed) (ws' graph' out' : List ℕ) → (served machine (length out) ≡ true) × (number_of schedule ≡ machine)
+  pub turned_away : served machine (length out) ≡ false → GraphCalled machine w arguments fuel N τ ws graph out ws graph out 1
+  turned_away h = record { returned = rw h; workspace = rw h; buffer = rw h; answer = rw h }
+
+  pub told : (r : Graphed) (ws' graph' out' : List ℕ) → served machine (length out) ≡ true → r ≡ graphed_of (schedule_by machine N) w arguments fuel N τ (length ws) (length graph)
+      → ws' ≡ left_by r.answer ws → graph' ≡ graph_left (schedule_by machine N) w arguments fuel N τ (length ws) graph → out' ≡ written out (graph_words r)
+      → GraphCalled machine w arguments fuel N τ ws graph out ws' graph' out' 0
+  told r ws' graph' out' h a left wrote tells = record {
+    returned = rw h;
+    workspace = rw (h, ← a) left;
+    buffer = rw h wrote;
+    answer = rw (h, ← a) tells;
+  }
+
+  -- by the name of the machine
+  pub told_by_name : (schedule : Schedule) (r : Graphed) (ws' graph' out' : List ℕ) → (served machine (length out) ≡ true) × (number_of schedule ≡ machine)
       → r ≡ graphed_of (schedule_of schedule N) w arguments fuel N τ (length ws) (length graph) → ws' ≡ left_by r.answer ws
       → graph' ≡ graph_left (schedule_of schedule N) w arguments fuel N τ (length ws) graph → out' ≡ written out (graph_words r)
       → GraphCalled machine w arguments fuel N τ ws graph out ws' graph' out' 0
-  told schedule r ws' graph' out' h a left wrote tells =
-      let name = by_name schedule machine N h.1 in
-      let is = rw name at a in
-      record { returned = rw h.0; workspace = rw (h.0, ← is) left; buffer = rw (h.0, ← name) wrote; answer = rw (h.0, ← is) tells }
+  told_by_name schedule r ws' graph' out' h a left wrote tells =
+      let name = by_name schedule machine N h.1 in told r ws' graph' out' h.0 (rw name at a) left (rw name at wrote) tells
 
 -- THE WORDS of such an answer: the first nine are those of the answer, the tenth is the number of words
 ten : (r : Graphed) → length (graph_words r) ≡ 10

@@ -1,4 +1,4 @@
--- A call is served or it is not, by its two tests; its machine by the number and by the name; and what `Called` says of one that is served.
+-- A call is served or it is not, by its two tests; its machine by the number and by the name; and what `Called` says of each.
 -- Assumes nothing.
 use mathlib.Core.Path.{◌≡◌, refl, sym, ◌∙◌}
 use Prim.Native.Nat.{ℕ, ◌<◌, ◌≤◌}
@@ -22,7 +22,7 @@ use Rattle.capi.specs.Words.{answer_words, written}
 use Rattle.capi.specs.Calls.{answer_by, served, Serves, Called}
 use Rattle.capi.specs.Graphs.{schedule_by}
 
-unknown : (machine room : ℕ) → 2 < machine → served machine room ≡ false
+pub unknown : (machine room : ℕ) → 2 < machine → served machine room ≡ false
 unfolding served
 unknown machine room h = rw (lt-leb machine 2 h)
 
@@ -37,6 +37,13 @@ cramped machine room h = rw (lt-leb 8 room h) (on (leb machine 2))
 pub serving : (machine room : ℕ) → machine ≤ 2 → 8 ≤ room → served machine room ≡ true
 unfolding served
 serving machine room h k = rw (le-leb machine 2 h, le-leb 8 room k)
+
+module _ (machine room : ℕ) {answer : Bool} (is : answer ≡ served machine room) where
+  pub refuses : answer ≡ false → served machine room ≡ false
+  refuses h = sym is ∙ h
+
+  pub accepts : answer ≡ true → served machine room ≡ true
+  accepts h = sym is ∙ h
 
 -- a number that names a schedule, or none
 pub names : (machine room : ℕ) (r : Result Schedule UnknownSchedule) → 8 ≤ room → Names machine r → Serves machine room (result_ok r)
@@ -72,9 +79,20 @@ by_name schedule machine N e = rw (← e) (on schedule)
     on Heartbeat = refl
 
 module _ (machine : ℕ) (w arguments : List ℕ) (fuel N τ : ℕ) (ws out : List ℕ) where
-  pub told : (schedule : Schedule) (r : Answer) (ws' out' : List ℕ) → (served machine (length out) ≡ true) × (number_of schedule ≡ machine)
+  pub turned_away : served machine (length out) ≡ false → Called machine w arguments fuel N τ ws out ws out 1
+  turned_away h = record { returned = rw h; workspace = rw h; answer = rw h }
+
+  pub told : (r : Answer) (ws' out' : List ℕ) → served machine (length out) ≡ true → r ≡ answer_by machine w arguments fuel N τ (length ws)
+      → ws' ≡ left_by r ws → out' ≡ written out (answer_words r) → Called machine w arguments fuel N τ ws out ws' out' 0
+  told r ws' out' h a left wrote = record {
+    returned = rw h;
+    workspace = rw (h, ← a) left;
+    answer = rw (h, ← a) wrote;
+  }
+
+  -- by the name of the machine
+  pub told_by_name : (schedule : Schedule) (r : Answer) (ws' out' : List ℕ) → (served machine (length out) ≡ true) × (number_of schedule ≡ machine)
       → r ≡ answer_of (schedule_of schedule N) w arguments fuel N τ (length ws) → ws' ≡ left_by r ws → out' ≡ written out (answer_words r)
       → Called machine w arguments fuel N τ ws out ws' out' 0
-  told schedule r ws' out' h a left wrote =
-      let is : r ≡ answer_by machine w arguments fuel N τ (length ws) = a ∙ rw (by_name schedule machine N h.1) (sym (by_number machine w arguments fuel N τ (length ws))) in
-      record { returned = rw h.0; workspace = rw (h.0, ← is) left; answer = rw (h.0, ← is) wrote }
+  told_by_name schedule r ws' out' h a left wrote =
+      told r ws' out' h.0 (a ∙ rw (by_name schedule machine N h.1) (sym (by_number machine w arguments fuel N τ (length ws)))) left wrote

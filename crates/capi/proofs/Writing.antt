@@ -1,13 +1,13 @@
 -- The words of an answer in a buffer: written by a copy, found by their places, and unseen where they are past its end.
 -- Assumes nothing.
-use Prim.Native.Nat.{ℕ, ◌≤◌, ◌<◌}
+use Prim.Native.Nat.{ℕ, ◌+◌, ◌≤◌, ◌<◌}
 use Rattle.std.specs.Prelude.{min}
 use mathlib.Core.Path.{◌≡◌, sym, ap, ◌∙◌}
 use mathlib.Core.List.{List, ◌++◌}
 use native.Mathlib.Omega.{arith}
 use native.Mathlib.Decide.{dec_lt}
 use lib.ListN.{length, get_or, take, drop, length-append, length-take, length-drop, drop_of_length-le, get_or-append}
-use lib.Seq.{take_all, take-length, take-append-le, get_or-take}
+use lib.Seq.{paste, take_all, take-length, take-append-le, get_or-take}
 use Rattle.capi.specs.Words.{written, GrownUnseen}
 
 -- nothing lies past a buffer's end
@@ -27,6 +27,18 @@ module _ (out words : List ℕ) where
       on (no h) =
           let all : n ≡ length words = omega (arith, e) in
           rw (all, take-length words, take_all (length out) words (omega arith))
+
+  -- of all that there is room for
+  pub copied_to_end : length out < length words → paste out 0 words (length out) ≡ written out words
+  copied_to_end h =
+      let n : 0 + length out ≡ length out = omega arith in
+      rw n (copied (length out) (omega (arith, h)))
+
+  -- or of all words
+  pub copied_whole : length words ≤ length out → paste out 0 words (length words) ≡ written out words
+  copied_whole h =
+      let n : 0 + length words ≡ length words = omega arith in
+      rw n (copied (length words) (omega (arith, h)))
 
   pub length_written : length (written out words) ≡ length out
   unfolding written

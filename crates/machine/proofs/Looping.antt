@@ -26,7 +26,7 @@ use Rattle.machine.proofs.Running.{Running, to_go, running_far}
 use Rattle.machine.proofs.Tracking.{Tracking, tracking_far, free_next}
 
 -- no stride is a pause, or a free move
-never_paused : {w ws ls : List ℕ} {plan : Plan} {g : Compact} {ws' ls' : List ℕ} {r : Progress} → Strides w ws ls plan g ws' ls' r → (p : Pause) → r ≡ Paused p → ⊥
+pub never_paused : {w ws ls : List ℕ} {plan : Plan} {g : Compact} {ws' ls' : List ℕ} {r : Progress} → Strides w ws ls plan g ws' ls' r → (p : Pause) → r ≡ Paused p → ⊥
 unfolding Transits
 never_paused st p e = rw e at st.transits
 

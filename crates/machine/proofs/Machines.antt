@@ -27,7 +27,7 @@ use Rattle.language.proofs.Stops.{listed_of}
 use Rattle.language.proofs.Claim.{claim_of, same_depth_of, stops_agree_of}
 use Rattle.moves.specs.declared.Plan.{Plan}
 use Rattle.machine.specs.Workspace.{left_by}
-use Rattle.machine.specs.Runs.{Accepted, Ran, Suits}
+use Rattle.machine.specs.Runs.{Accepted, Ran, Tells}
 use Rattle.graph_answers.specs.declared.Graphed.{Graphed}
 use Rattle.graph_answers.specs.Answers.{graphed_of, graph_left}
 use Rattle.graph_answers.proofs.Claim.{claim_lent, claim_or_25, same_depth_lent, stops_agree_lent}
@@ -52,9 +52,9 @@ zeroed ws ws' n r e l left = e ∙ ap (λ (k : ℕ). replicate k 0) l ∙ sym le
 -- `asked` are the words of the workspace that the check was told of
 module _ (w arguments : List ℕ) (fuel N τ size asked : ℕ) (read : Reading) (told : read ≡ checked_of w (length arguments) fuel N τ asked) where
   pub tells_run : read ≡ Ok tt → Admitted w (length arguments) fuel N τ asked → asked ≡ size
-      → (m : Schedule) (plan : Plan) (r : Answer) → Ran w arguments size plan r → plan.fuel.0 ≡ fuel → plan.tau ≡ τ
-      → Suits fuel m plan.birth plan.period → r ≡ answer_of m w arguments fuel N τ size
-  tells_run e a same m plan r ran f t suits =
+      → (plan : Plan) (r : Answer) → Ran w arguments size plan r → plan.fuel.0 ≡ fuel → plan.tau ≡ τ
+      → Tells w arguments fuel N τ size plan.birth plan.period r
+  tells_run e a same plan r ran f t m suits =
       (rw (f, t) at (ran.answers m (rw f (suits a.fuel.most)))) ∙ answer_run m w arguments fuel N τ size (rw same at (sym told ∙ e))
 
   pub tells_refusal : (f : Refusal) → read ≡ Err f → asked ≡ size → (m : Schedule) → Refused f ≡ answer_of m w arguments fuel N τ size

@@ -11,7 +11,7 @@ use Rattle.language.specs.declared.Answer.{Answer}
 use Rattle.language.specs.declared.Answer.TheVariants as answer
 use Rattle.language.specs.Language.{language}
 use Rattle.language.specs.Checks.{frames_in}
-use Rattle.language.specs.Answers.{entry_code, counts_of, stopped, unfinished, told_by_spans}
+use Rattle.language.specs.Answers.{entry_code, counts_of, stopped, unfinished, told_by_spans, answer_of}
 use Rattle.moves.specs.declared.Control.TheVariants.{Eval}
 use Rattle.moves.specs.declared.Registers.{Registers}
 use Rattle.moves.specs.declared.Plan.{Plan}
@@ -68,3 +68,8 @@ pub record Ran (w arguments : List ℕ) (workspace : ℕ) (plan : Plan) (r : Ans
 -- the flags are a schedule's, where the fuel is in its range; the check refuses any other
 abbrev pub Suits : ℕ → Schedule → Bool → ℕ → Type 0
 Suits fuel m birth pace = fuel ≤ 100000000 → Flags fuel m birth pace
+
+-- WHAT A MACHINE ANSWERS, for any input: its definition, of each schedule that the flags suit
+abbrev pub Tells : List ℕ → List ℕ → ℕ → ℕ → ℕ → ℕ → Bool → ℕ → Answer → Type 0
+Tells w arguments fuel N τ workspace birth pace r =
+    (m : Schedule) → Suits fuel m birth pace → r ≡ answer_of m w arguments fuel N τ workspace

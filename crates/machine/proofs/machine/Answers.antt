@@ -10,7 +10,7 @@ pub returns-in-Ok : goal.returns-in-Ok
 returns-in-Ok c =
     let a = c.checked-read.ensures.assures.0 c.in-Ok.is in
     let p = c.plan.ensures in (
-      tells_run c.args.words.now c.args.arguments.now _ _ _ _ _ _ c.checked-read.ensures.answer c.in-Ok.is a (omega arith) _ _ _ c.launch.ensures.0 p.2 p.1 p.0,
+      tells_run c.args.words.now c.args.arguments.now _ _ _ _ _ _ c.checked-read.ensures.answer c.in-Ok.is a (omega arith) _ _ c.launch.ensures.0 p.2 p.1 _ p.0,
       c.launch.ensures.1,
       lends_run c.args.words.now c.args.arguments.now _ _ _ _ _ _ c.checked-read.ensures.answer (omega arith) c.in-Ok.is a _ _ _ _ c.launch.ensures.2 p.2 _ p.0,
     )
