@@ -15,6 +15,9 @@ told 's/^# refused by: .*/# refused by: no_such_function/' 'no_nodes: no_such_fu
 told 's/^old: .*/old: words/' 'no_nodes: its text is not once in src/lib.rt: words'
 told 's/^# refused by/# no twin: a trial\n&/' "no_nodes needs a twin in tests/twins, or a line '# no twin: REASON', and not both"
 back "$edit"
+edit=tests/edits/report/half_words.edit
+told '/^# no twin/d' "half_words needs a twin in tests/twins, or a line '# no twin: REASON', and not both"
+back "$edit"
 with tests/twins/table/body_runs_on.edit 's/^old: .*/old: if 64 < functions {/; s/^new: .*/new: if functions > 64 {/'
 ends 1 tests/edits/forms
 wrote out 'tests/twins/table/body_runs_on.edit: it is of another place than its edit'

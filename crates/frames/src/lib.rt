@@ -59,12 +59,15 @@ pub struct Seat {
     pub count: usize,
 }
 
-// Copies n words of `src`, from word `from` on, over those of `dst` from word `at` on.
+// Copies n words of `src`, from word `from` on, over those of `dst` from word `at` on, in a loop: compiled to a call of memcpy.
+// Kept: tried, and slower: as `copy_from_slice` it has such a call at 33 places of the machine's loop where this has 19 (docs/LOOK-BACK.md).
 fn copy_many(dst: &mut [u64], at: usize, src: &[u64], from: usize, n: usize)
     requires { (at + n ≤ length dst.old) × (from + n ≤ length src.now) }
     ensures { dst.new ≡ paste dst.old at (drop from src.now) n }
 {
-    dst[at..at + n].copy_from_slice(&src[from..from + n]);
+    for i in 0..n {
+        dst[at + i] = src[from + i];
+    }
 }
 
 // The same. The first four words, and most frames save no more, are cheaper one by one.

@@ -1,5 +1,5 @@
 -- What the functions under the machines tell of the buffer that is lent for a run's cost graph.
-use Rattle.std.specs.Prelude.{ℕ, ◌-◌, ◌≤◌, ◌<◌, ◌≡◌, ◌⊎◌, List, ◌++◌, length, take, replicate, Ok, Err}
+use Rattle.std.specs.Prelude.{ℕ, ◌-◌, ◌≤◌, ◌<◌, ◌≡◌, ◌⊎◌, Bool, List, ◌++◌, length, take, replicate, Ok, Err}
 use Rattle.schedule.specs.Graph.{Graph}
 use Rattle.schedule.specs.Algebra.{graphs}
 use Rattle.schedule.specs.Machine.{Schedule, value, RunCounts, ended}
@@ -18,6 +18,7 @@ use Rattle.language.specs.Stops.{Listed}
 use Rattle.graph_answers.specs.declared.Graphed.{Graphed}
 use Rattle.graph_answers.specs.Claim.{Told25}
 use Rattle.moves.specs.declared.Plan.{Plan}
+use Rattle.machine.specs.Runs.{Suits}
 
 -- the last stretch ends, beside a buffer that has words; beside one that has none, 1 is told
 pub record Finished (graph : List ℕ) (n made words : ℕ) (graph' : List ℕ) : Type 0 where
@@ -42,6 +43,11 @@ pub record Lends (w arguments : List ℕ) (fuel N τ workspace : ℕ) (m : Sched
   pub holds : checked_of w (length arguments) fuel N τ workspace ≡ Ok tt
       → (v : ℕ) (g : Graph) (t : RunCounts) → outcome graphs (language w) fuel (frames_in workspace) m (entry_code arguments) ≡ ended (value v) g t
       → Holds graph words graph' g
+
+-- the same of each schedule that the flags suit
+abbrev pub LendsBy : List ℕ → List ℕ → ℕ → ℕ → ℕ → ℕ → Bool → ℕ → List ℕ → ℕ → List ℕ → Type 0
+LendsBy w arguments fuel N τ workspace birth pace graph words graph' =
+    (m : Schedule) → Suits fuel m birth pace → Lends w arguments fuel N τ workspace m graph words graph'
 
 -- the buffer after what is answered: zeros after the words of a value, and everywhere after a stop
 unfoldable pub cleared_to : Answer → ℕ → List ℕ → List ℕ

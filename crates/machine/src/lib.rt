@@ -20,9 +20,9 @@ ghost use Rattle.machine.specs.Workspace.{left_by};
 ghost use Rattle.graph_answers.specs.Fitted.{fitted_of};
 ghost use Rattle.graph_answers.specs.Answers.{graphed_of, graph_left};
 ghost use Rattle.machine.specs.Schedules.{schedule_of, Names};
-ghost use Rattle.machine.specs.Runs.{begun, told_at, Countable, Accepted, Begins, Ran, Suits};
+ghost use Rattle.machine.specs.Runs.{begun, told_at, Countable, Accepted, Begins, Ran, Suits, Tells};
 ghost use Rattle.machine.specs.Loop.{Onward, Resolved, Final, event_of, Fits, MarkableAt, Moves};
-ghost use Rattle.machine.specs.Written.{Finished, Wrote, Lends, cleared_by, StopToldLent};
+ghost use Rattle.machine.specs.Written.{Finished, Wrote, LendsBy, cleared_by, StopToldLent};
 ghost use Rattle.machine.specs.AllThree.{AllThree, AllThreeGraphs};
 
 use compact::{Compact, Event, Pause, Progress};
@@ -378,21 +378,22 @@ fn launch(
     run(job, arguments, ws, &mut locals, graph, plan)
 }
 
-// Any of the three machines, for any input: the check first; a run by the schedule's plan if it accepts. Beside the answer it tells the number of
-// words that the graph needs, and leaves in the buffer those that it has room for.
+// Any of the three machines, for any input: the check first; a run by the plan if it accepts. Beside the answer it tells the number of words that
+// the graph needs, and leaves in the buffer those that it has room for.
 fn machine(
     words: &[u32],
     arguments: &[u64],
-    schedule: Schedule,
     settings: Settings,
+    plan: Plan,
     workspace: &mut [u64],
     graph: &mut [u32],
 ) -> Graphed
-    ensures { (result.answer ≡ answer_of (schedule_of schedule settings.period) words.now arguments.now settings.fuel.0 settings.period settings.tau (length workspace.old)) × (workspace.new ≡ left_by result.answer workspace.old) × (Lends words.now arguments.now settings.fuel.0 settings.period settings.tau (length workspace.old) (schedule_of schedule settings.period) graph.old result.words graph.new) }
+    requires { (plan.fuel.0 ≡ settings.fuel.0) × (plan.tau ≡ settings.tau) }
+    ensures { (Tells words.now arguments.now settings.fuel.0 settings.period settings.tau (length workspace.old) plan.birth plan.period result.answer) × (workspace.new ≡ left_by result.answer workspace.old) × (LendsBy words.now arguments.now settings.fuel.0 settings.period settings.tau (length workspace.old) plan.birth plan.period graph.old result.words graph.new) }
 {
     let read = language::checked(words, arguments.len(), settings, workspace.len());
     match read {
-        Ok(()) => launch(words, arguments, workspace, graph, schedule.plan(settings)),
+        Ok(()) => launch(words, arguments, workspace, graph, plan),
         Err(refusal) => Graphed {
             answer: Answer::Refused(refusal),
             words: 1,
@@ -450,7 +451,8 @@ impl Schedule {
         ensures listed { StopListed words.now settings.fuel.0 result }
     {
         let mut none = [0u32; 0];
-        let ran = machine(words, arguments, self, settings, workspace, &mut none);
+        let plan = self.plan(settings);
+        let ran = machine(words, arguments, settings, plan, workspace, &mut none);
         ran.answer
     }
 
@@ -468,7 +470,8 @@ impl Schedule {
         ensures writes { graph.new ≡ graph_left (schedule_of self settings.period) words.now arguments.now settings.fuel.0 settings.period settings.tau (length workspace.old) graph.old }
         ensures listed { StopToldLent words.now settings.fuel.0 result.answer }
     {
-        let ran = machine(words, arguments, self, settings, workspace, graph);
+        let plan = self.plan(settings);
+        let ran = machine(words, arguments, settings, plan, workspace, graph);
         concluded(graph, ran)
     }
 }

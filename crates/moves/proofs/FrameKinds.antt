@@ -77,3 +77,13 @@ none_more {P} {from} {i} before here j a b p = on (ℕ_discrete j i)
     on : Dec (j ≡ i) → ⊥
     on (yes e) = here (rw e at p)
     on (no n) = before j a (omega (arith, n)) p
+
+-- the last of the kinds that are not promoted
+low_kinds : (n : ℕ) → (n ≡ 0 → ⊥) → (n ≡ 1 → ⊥) → (n ≡ 2 → ⊥) → 3 ≤ n
+low_kinds n n0 n1 n2 = omega arith
+
+high_kinds : (n : ℕ) → 3 ≤ n → (n ≡ 3 → ⊥) → (n ≡ 4 → ⊥) → (n ≡ 5 → ⊥) → n < 7 → n ≡ 6
+high_kinds n h n3 n4 n5 l = omega arith
+
+pub last_kind : (n : ℕ) → (n ≡ 0 → ⊥) → (n ≡ 1 → ⊥) → (n ≡ 2 → ⊥) → (n ≡ 3 → ⊥) → (n ≡ 4 → ⊥) → (n ≡ 5 → ⊥) → n < 7 → n ≡ 6
+last_kind n n0 n1 n2 n3 n4 n5 l = high_kinds n (low_kinds n n0 n1 n2) n3 n4 n5 l

@@ -1,8 +1,8 @@
 -- Simple operands: their words are there, and they have their values by so many transitions.
-use Prim.Native.Nat.{ℕ, ◌+◌, ◌*◌, ◌≤◌, ◌<◌}
+use Prim.Native.Nat.{ℕ, zero, suc, ◌+◌, ◌*◌, ◌≤◌, ◌<◌}
 use Rattle.std.specs.Prelude.{Ok, Option, Some, None}
 use Rattle.std.specs.Option.{option_map_or, unwrap_or}
-use mathlib.Core.Path.{◌≡◌, ap, ◌∙◌}
+use mathlib.Core.Path.{◌≡◌, refl, ap, ◌∙◌}
 use mathlib.Core.Bool.{Bool, true, false, cond}
 use mathlib.Core.List.{List}
 use native.Mathlib.Omega.{arith}
@@ -81,6 +81,17 @@ numbered_is i b c o e = by (operation_of i) e
 pub two_node : (w : List ℕ) (f p : ℕ) (o : Operation) (b : ℕ) → tag_at w (start_of w f) p ≡ 2 → node_at w (start_of w f) p ≡ Arithmetic o b → numbered (a_at w (start_of w f) p) ≡ o
 unfolding node_of
 two_node w f p o b t e = numbered_is (a_at w (start_of w f) p) (b_at w (start_of w f) p) b o (rw t at e)
+
+-- a number that is none of 0 to 5
+pub last_operation : (n : ℕ) → (n ≡ 0 → ⊥) → (n ≡ 1 → ⊥) → (n ≡ 2 → ⊥) → (n ≡ 3 → ⊥) → (n ≡ 4 → ⊥) → (n ≡ 5 → ⊥) → numbered n ≡ Equal
+last_operation zero n0 n1 n2 n3 n4 n5 = absurd (n0 refl)
+last_operation (suc zero) n0 n1 n2 n3 n4 n5 = absurd (n1 refl)
+last_operation (suc (suc zero)) n0 n1 n2 n3 n4 n5 = absurd (n2 refl)
+last_operation (suc (suc (suc zero))) n0 n1 n2 n3 n4 n5 = absurd (n3 refl)
+last_operation (suc (suc (suc (suc zero)))) n0 n1 n2 n3 n4 n5 = absurd (n4 refl)
+last_operation (suc (suc (suc (suc (suc zero))))) n0 n1 n2 n3 n4 n5 = absurd (n5 refl)
+last_operation (suc (suc (suc (suc (suc (suc zero)))))) n0 n1 n2 n3 n4 n5 = refl
+last_operation (suc (suc (suc (suc (suc (suc (suc n))))))) n0 n1 n2 n3 n4 n5 = refl
 
 -- A LEAF by its node
 module _ (w : List ℕ) (f p : ℕ) where

@@ -38,6 +38,9 @@ use Rattle.strides.proofs.Striding.{returned, done_strides}
 abbrev twenty : Seat → Progress
 twenty seat = Halt (record { number = 20; function = seat.function; node = seat.node })
 
+pub promotion_no_limit : pause.Promotion ≡ pause.Limit → ⊥
+promotion_no_limit e = cc
+
 module _ {w ws ls : List ℕ} {plan : Plan} {g : Compact} where
   -- the registers can be expanded
   pub expands : Starts w ws ls plan g → (g.since ≤ g.transitions) × ((full g).span.0 < 2 ^ 60)

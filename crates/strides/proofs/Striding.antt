@@ -208,6 +208,15 @@ tag_low (Call f b c) h = omega arith
 tag_low (Both b c) h = omega arith
 tag_low Unknown h = absurd (h refl)
 
+pub leaf_tag : (t : ℕ) → (t ≡ 2 → ⊥) → (t ≡ 3 → ⊥) → (t ≡ 4 → ⊥) → (t ≡ 5 → ⊥) → (t ≡ 6 → ⊥) → t < 7 → t < 2
+leaf_tag t n2 n3 n4 n5 n6 h = low (high n5 n6 h) n2 n3 n4
+  where
+    high : (t ≡ 5 → ⊥) → (t ≡ 6 → ⊥) → t < 7 → t < 5
+    high n5 n6 h = omega arith
+
+    low : t < 5 → (t ≡ 2 → ⊥) → (t ≡ 3 → ⊥) → (t ≡ 4 → ⊥) → t < 2
+    low h n2 n3 n4 = omega arith
+
 module _ {w ws ls : List ℕ} {plan : Plan} {g : Compact} (c : Calm w ws ls plan g) {seat : Seat} (e : g.control ≡ Eval seat) where
   site_here : Stands w seat.function seat.node seat.count
   site_here = here c.starts seat e

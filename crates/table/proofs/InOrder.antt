@@ -13,25 +13,34 @@ use Rattle.table.specs.declared.Refusal.{Refusal}
 use Rattle.table.specs.Read.{Reading, ◌then◌, each}
 
 module _ (told : ℕ → Reading) (n f : ℕ) where
-  -- what a loop over the functions keeps: n tell what those from f on tell
-  abbrev pub Reached : Type 0
-  Reached = each told n 0 ≡ each told (n - f) f
-
   first_of : f < n → each told (n - f) f ≡ (told f then each told (n - (f + 1)) (f + 1))
   unfolding each
   first_of h = let e : n - f ≡ suc (n - (f + 1)) = omega arith in rw e
 
-  pub reached_next : f < n → Reached → Ok tt ≡ told f → each told n 0 ≡ each told (n - (f + 1)) (f + 1)
+  pub each_done : n ≤ f → each told (n - f) f ≡ Ok tt
+  unfolding each
+  each_done h = let e : n - f ≡ 0 = omega arith in rw e
+
+  pub each_next : f < n → told f ≡ Ok tt → each told (n - f) f ≡ each told (n - (f + 1)) (f + 1)
   unfolding ◌then◌
-  reached_next h i a = i ∙ first_of h ∙ rw (← a)
+  each_next h e = first_of h ∙ ap (λ r. r then each told (n - (f + 1)) (f + 1)) e
+
+  pub each_stop : {r : Refusal} → f < n → told f ≡ Err r → each told (n - f) f ≡ Err r
+  unfolding ◌then◌
+  each_stop h e = first_of h ∙ ap (λ r. r then each told (n - (f + 1)) (f + 1)) e
+
+  -- what a loop over the functions keeps: n tell what those from f on tell
+  abbrev pub Reached : Type 0
+  Reached = each told n 0 ≡ each told (n - f) f
+
+  pub reached_next : f < n → Reached → Ok tt ≡ told f → each told n 0 ≡ each told (n - (f + 1)) (f + 1)
+  reached_next h i a = i ∙ each_next h (sym a)
 
   pub reached_stop : {r : Refusal} → f < n → Reached → Err r ≡ told f → each told n 0 ≡ Err r
-  unfolding ◌then◌
-  reached_stop h i a = i ∙ first_of h ∙ rw (← a)
+  reached_stop h i a = i ∙ each_stop h (sym a)
 
   pub reached_end : n ≤ f → Reached → each told n 0 ≡ Ok tt
-  unfolding each
-  reached_end h i = let e : n - f ≡ 0 = omega arith in i ∙ rw e
+  reached_end h i = i ∙ each_done h
 
 pub reached_start : (told : ℕ → Reading) (n : ℕ) → Reached told n 0
 reached_start told n = let e : n - 0 ≡ n = omega arith in ap (λ m. each told m 0) (sym e)
