@@ -60,7 +60,7 @@ pub struct Seat {
 }
 
 // Copies n words of `src`, from word `from` on, over those of `dst` from word `at` on, in a loop: compiled to a call of memcpy.
-// Kept: tried, and slower: as `copy_from_slice` it has such a call at 33 places of the machine's loop where this has 19 (docs/LOOK-BACK.md).
+// Kept: tried, and slower: as `copy_from_slice` it has such a call at 33 places of the machine's loop where this has 19 (docs/DESIGN-PASS.md, "Speed").
 fn copy_many(dst: &mut [u64], at: usize, src: &[u64], from: usize, n: usize)
     requires { (at + n ≤ length dst.old) × (from + n ≤ length src.now) }
     ensures { dst.new ≡ paste dst.old at (drop from src.now) n }
@@ -71,7 +71,7 @@ fn copy_many(dst: &mut [u64], at: usize, src: &[u64], from: usize, n: usize)
 }
 
 // The same. The first four words, and most frames save no more, are cheaper one by one.
-// Kept: tried, and slower: with `copy_many` alone each of the 16 jobs of bench/ took longer on each machine, 19% in the mean, 4% to 37%.
+// Kept: tried, and slower: as one `copy_from_slice` each of the 16 jobs of bench/ took longer on each machine, 19% in the mean, 4% to 37%.
 pub fn copy(dst: &mut [u64], at: usize, src: &[u64], from: usize, n: usize)
     requires { (at + n ≤ length dst.old) × (from + n ≤ length src.now) }
     ensures { dst.new ≡ paste dst.old at (drop from src.now) n }

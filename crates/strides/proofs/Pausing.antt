@@ -38,6 +38,7 @@ use Rattle.strides.proofs.Striding.{returned, done_strides}
 abbrev twenty : Seat → Progress
 twenty seat = Halt (record { number = 20; function = seat.function; node = seat.node })
 
+-- a promotion is another pause than the limit
 pub promotion_no_limit : pause.Promotion ≡ pause.Limit → ⊥
 promotion_no_limit e = cc
 
