@@ -33,6 +33,15 @@ limit_exact : (plan : Plan) (since oldest : ℕ) → limit_of plan since oldest 
 unfolding limit_of
 limit_exact plan since oldest h = grind (arith, nat_tests)
 
+-- the same machine's, by its limit so far
+pub limit_again : (plan : Plan) (g : Compact) → Paced plan g → (oldest : ℕ) → oldest < 4096 → g.limit - (g.limit - g.since - plan.period) ≡ limit_of plan g.since oldest
+unfolding limit_of
+limit_again plan g p oldest h = grind (arith, nat_tests, p.fuel, p.calm, p.exact)
+
+pub limit_none : (plan : Plan) (since oldest : ℕ) → 4096 ≤ oldest → plan.fuel.0 ≡ limit_of plan since oldest
+unfolding limit_of
+limit_none plan since oldest h = grind (arith, nat_tests)
+
 -- A STEP'S ANSWER, by what is told of the registers that it goes on with
 pub goes_with : {P : Registers → Type 0} {o : Step} → ((s : Registers) → o ≡ Go s → P s) → GoesWith P o
 unfolding GoesWith

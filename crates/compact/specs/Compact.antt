@@ -92,6 +92,12 @@ Settles plan (step.Go s) = (s.credits.0 ≤ s.transitions) × (s.transitions ≤
 Settles plan (step.Value v) = Unit {0}
 Settles plan (step.Halt h) = Unit {0}
 
+-- and are of the machine that g tells of: it started where g's did
+unfoldable pub Continues : Compact → Step → Type 0
+Continues g (step.Go s) = s.transitions - s.credits.0 ≡ g.since
+Continues g (step.Value v) = Unit {0}
+Continues g (step.Halt h) = Unit {0}
+
 -- and have no fork
 unfoldable pub Forkless : Step → Type 0
 Forkless (step.Go s) = s.oldest ≡ 4096

@@ -4,7 +4,7 @@
 
 ghost use Rattle.std.specs.Prelude.{◌≡◌, true, ◌&&◌, ◌+◌, ◌<◌, ◌≤◌, ◌^◌, ltb, leb};
 ghost use Rattle.moves.specs.Ready.{Framed, Paid, Opened};
-ghost use Rattle.compact.specs.Compact.{full, step_of, limit_of, Paced, PacedBy, limited_of, compact_of, GoesWith, Answers, settled_of, Settles, Forkless, kept_by, freed_by, Transits, later_of, Small, Roomy};
+ghost use Rattle.compact.specs.Compact.{full, step_of, limit_of, Paced, PacedBy, limited_of, compact_of, GoesWith, Answers, settled_of, Settles, Continues, Forkless, kept_by, freed_by, Transits, later_of, Small, Roomy};
 
 use frames::Seat;
 use moves::{Control, Plan, Registers, Step, Stopped};
@@ -88,6 +88,20 @@ fn limit_of(plan: Plan, since: u64, oldest: usize) -> u64
     }
 }
 
+// The same of the machine that g tells of, with this oldest fork: from the limit so far, which is the fuel, or no more than a period after the start.
+// Kept: tried, and slower: by `limit_of` the compiler works the sums of the start out at the beginning of each free move, whether a fork follows or not
+// (docs/DESIGN-PASS.md, "Speed").
+fn limit_after(plan: Plan, g: Compact, oldest: usize) -> u64
+    requires { (Paced plan g) × (g.since ≤ plan.fuel.0) }
+    ensures { result ≡ limit_of plan g.since oldest }
+{
+    if oldest < moves::NO_FORK {
+        g.limit - (g.limit - g.since).saturating_sub(plan.period)
+    } else {
+        plan.fuel.0
+    }
+}
+
 // Registers made compact, with this limit.
 fn limited(s: Registers, limit: u64) -> Compact
     requires { (s.credits.0 ≤ s.transitions) × (s.credits.0 ≤ s.span.0) }
@@ -133,6 +147,14 @@ pub fn settle(plan: Plan, step: Step) -> Progress
     ensures { result ≡ settled_of plan step }
 {
     answer(step, |s| pack(plan, s))
+}
+
+// The same where the machine goes on, and its oldest fork may be another: its start is kept.
+pub fn go_on(plan: Plan, g: Compact, step: Step) -> Progress
+    requires { (Paced plan g) × (Settles plan step) × (Continues g step) }
+    ensures { result ≡ settled_of plan step }
+{
+    answer(step, |s| limited(s, limit_after(plan, g, s.oldest)))
 }
 
 // The same where a machine begins and has no fork: its limit is the fuel.

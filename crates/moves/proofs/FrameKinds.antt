@@ -87,3 +87,27 @@ high_kinds n h n3 n4 n5 l = omega arith
 
 pub last_kind : (n : ℕ) → (n ≡ 0 → ⊥) → (n ≡ 1 → ⊥) → (n ≡ 2 → ⊥) → (n ≡ 3 → ⊥) → (n ≡ 4 → ⊥) → (n ≡ 5 → ⊥) → n < 7 → n ≡ 6
 last_kind n n0 n1 n2 n3 n4 n5 l = high_kinds n (low_kinds n n0 n1 n2) n3 n4 n5 l
+
+-- by the kind
+pub last_paid : (kind : Kind) → (kind ≡ LeftOperand → ⊥) → (kind ≡ RightOperand → ⊥) → (kind ≡ Condition → ⊥) → (kind ≡ Binding → ⊥) → (kind ≡ Argument → ⊥) → (kind ≡ PlainLeft → ⊥) → word_of kind < 7
+    → kind ≡ PlainRight
+last_paid LeftOperand n0 n1 n2 n3 n4 n5 h = absurd (n0 refl)
+last_paid RightOperand n0 n1 n2 n3 n4 n5 h = absurd (n1 refl)
+last_paid Condition n0 n1 n2 n3 n4 n5 h = absurd (n2 refl)
+last_paid Binding n0 n1 n2 n3 n4 n5 h = absurd (n3 refl)
+last_paid Argument n0 n1 n2 n3 n4 n5 h = absurd (n4 refl)
+last_paid PlainLeft n0 n1 n2 n3 n4 n5 h = absurd (n5 refl)
+last_paid PlainRight n0 n1 n2 n3 n4 n5 h = refl
+last_paid PromotedLeft n0 n1 n2 n3 n4 n5 h = absurd (omega arith)
+last_paid PromotedRight n0 n1 n2 n3 n4 n5 h = absurd (omega arith)
+
+pub last_promoted : (kind : Kind) → 7 ≤ word_of kind → (kind ≡ PromotedLeft → ⊥) → kind ≡ PromotedRight
+last_promoted LeftOperand h n = absurd (omega arith)
+last_promoted RightOperand h n = absurd (omega arith)
+last_promoted Condition h n = absurd (omega arith)
+last_promoted Binding h n = absurd (omega arith)
+last_promoted Argument h n = absurd (omega arith)
+last_promoted PlainLeft h n = absurd (omega arith)
+last_promoted PlainRight h n = absurd (omega arith)
+last_promoted PromotedLeft h n = absurd (n refl)
+last_promoted PromotedRight h n = refl

@@ -1,4 +1,4 @@
-ghost use Rattle.std.specs.Prelude.{◌≡◌};
+ghost use Rattle.std.specs.Prelude.{◌≡◌, leb};
 ghost use Rattle.moves.specs.Layout.{word_of, kind_of};
 
 // The kinds of frames: an arithmetic that awaits its left or its right operand, a choose, a let, a call; a plain fork that awaits its left or
@@ -52,5 +52,14 @@ impl From<u64> for Kind {
             7 => Kind::PromotedLeft,
             _ => Kind::PromotedRight,
         }
+    }
+}
+
+impl Kind {
+    // Whether the frame is a promoted fork.
+    pub fn promoted(self) -> bool
+        ensures { result ≡ leb 7 (word_of self) }
+    {
+        u64::from(Kind::PromotedLeft) <= u64::from(self)
     }
 }

@@ -36,7 +36,7 @@ use Rattle.compact.specs.declared.Compact.{Compact}
 use Rattle.compact.specs.declared.Event.{Event}
 use Rattle.compact.specs.declared.Event.TheVariants.{Fork, Turn, Join}
 use Rattle.compact.specs.declared.Progress.{Progress}
-use Rattle.compact.specs.Compact.{full, step_of, PacedBy, compact_of, answer_of, settled_of, Settles, freed_by, Transits, Small}
+use Rattle.compact.specs.Compact.{full, step_of, PacedBy, compact_of, answer_of, settled_of, Settles, freed_by, Transits, Small, Continues}
 use Rattle.compact.proofs.Keeping.{compact_full, compact_paced}
 use Rattle.operands.specs.Operands.{leaf_at}
 use Rattle.strides.specs.Strides.{one, Starts, Calm, Returning, Forks, Occurs, Strides, Frees, Evaluating}
@@ -57,13 +57,17 @@ Plain (promoted_right g l b v) = ⊥
 unfoldable made : {K : CostAlgebra} {M : FrameMachine} → State K M → ℕ
 made (state c S n g t) = t.transitions
 
+-- the credits
+unfoldable aged : {K : CostAlgebra} {M : FrameMachine} → State K M → ℕ
+aged (state c S n g t) = n
+
 plain_rises : {K : CostAlgebra} {M : FrameMachine} {fuel frames : ℕ} {born : Bool} {v : ℕ} {x : Slot K.Cost M.Frame M.Fork} {S : Stack K M} {n : ℕ} {g : K.Cost} {t : RunCounts} {u : State K M}
-    → Move K M fuel frames born (state (return v) (x ∷ S) n g t) u → Plain x → made u ≡ t.transitions + 1
-unfolding Plain made
-plain_rises (closes e l) p = refl
-plain_rises (keeps_frame e l) p = refl
-plain_rises (turns l) p = refl
-plain_rises (joins l) p = refl
+    → Move K M fuel frames born (state (return v) (x ∷ S) n g t) u → Plain x → (made u ≡ t.transitions + 1) × (aged u ≡ n + 1)
+unfolding Plain made aged
+plain_rises (closes e l) p = (refl, refl)
+plain_rises (keeps_frame e l) p = (refl, refl)
+plain_rises (turns l) p = (refl, refl)
+plain_rises (joins l) p = (refl, refl)
 plain_rises turns_freely p = absurd p
 plain_rises joins_freely p = absurd p
 
@@ -83,15 +87,30 @@ plain_slot (suc (suc (suc (suc (suc zero))))) c v vs g l h = tt
 plain_slot (suc (suc (suc (suc (suc (suc zero)))))) c v vs g l h = tt
 plain_slot (suc (suc (suc (suc (suc (suc (suc k))))))) c v vs g l h = absurd (omega arith)
 
-pub paid_rises : (w ws ls : List ℕ) (plan : Plan) (s : Registers) (v t kind : ℕ) (q : Returns w ws ls plan s v t kind) → kind < 7
-    → (ws' ls' : List ℕ) (o : Step) → Stepped w ws ls plan s ws' ls' o → Rises s.transitions o
-unfolding result_of made
-paid_rises w ws ls plan s v t kind q h ws' ls' o m next e =
+-- by one transition of the same machine
+paid_ages : (w ws ls : List ℕ) (plan : Plan) (s : Registers) (v t kind : ℕ) (q : Returns w ws ls plan s v t kind) → kind < 7
+    → (ws' ls' : List ℕ) (o : Step) → Stepped w ws ls plan s ws' ls' o → (next : Registers) → o ≡ Go next → (next.transitions ≡ s.transitions + 1) × (next.credits.0 ≡ s.credits.0 + 1)
+unfolding result_of made aged
+paid_ages w ws ls plan s v t kind q h ws' ls' o m next e =
     let code = code_at ws (32 * t) in
     let x = slot_of kind code (frame_value ws (32 * t)) (frame_arguments ws (32 * t)) (frame_before ws (32 * t)) (frame_left ws (32 * t)) in
     let goes = sym (returned q) ∙ (rw e at m.same) in
-    let up = plain_rises (moved (move_view (spans plan.tau) (language w) plan.fuel.0 (length ws / 32) plan.birth _) goes) (plain_slot kind code _ _ _ _ h) in
-    omega (arith, up)
+    plain_rises (moved (move_view (spans plan.tau) (language w) plan.fuel.0 (length ws / 32) plan.birth _) goes) (plain_slot kind code _ _ _ _ h)
+
+pub paid_rises : (w ws ls : List ℕ) (plan : Plan) (s : Registers) (v t kind : ℕ) (q : Returns w ws ls plan s v t kind) → kind < 7
+    → (ws' ls' : List ℕ) (o : Step) → Stepped w ws ls plan s ws' ls' o → Rises s.transitions o
+paid_rises w ws ls plan s v t kind q h ws' ls' o m next e = omega (arith, (paid_ages w ws ls plan s v t kind q h ws' ls' o m next e).0)
+
+continues : (g : Compact) → g.since ≤ g.transitions → (o : Step)
+    → ((next : Registers) → o ≡ Go next → (next.transitions ≡ g.transitions + 1) × (next.credits.0 ≡ (full g).credits.0 + 1)) → Continues g o
+unfolding Continues
+continues g h (Go next) p = let x = p next refl in omega (arith, x.0, x.1)
+continues g h (Value v) p = tt
+continues g h (Halt r) p = tt
+
+pub paid_continues : (w ws ls : List ℕ) (plan : Plan) (g : Compact) (v t kind : ℕ) (q : Returns w ws ls plan (full g) v t kind) → kind < 7 → g.since ≤ g.transitions
+    → (ws' ls' : List ℕ) (o : Step) → Stepped w ws ls plan (full g) ws' ls' o → Continues g o
+paid_continues w ws ls plan g v t kind q h l ws' ls' o m = continues g l o (paid_ages w ws ls plan (full g) v t kind q h ws' ls' o m)
 
 -- the transitions of a step that goes on
 unfoldable transitions_of : Step → ℕ
@@ -187,6 +206,10 @@ pub returning_told : {w ws ls : List ℕ} {plan : Plan} {g : Compact} {v top : �
     → r ≡ kind → (kind ≡ PromotedRight → ⊥) → Returning w ws ls plan g v top (word_of kind)
 returning_told c e d k i n = record { calm = c; is = e; depth = d; of_kind = word_told k i n }
 
+-- where the kind is known
+pub returning_kind : {w ws ls : List ℕ} {plan : Plan} {g : Compact} {v top : ℕ} {r kind : Kind} → Returning w ws ls plan g v top (word_of r) → r ≡ kind → Returning w ws ls plan g v top (word_of kind)
+returning_kind {w} {ws} {ls} {plan} {g} {v} {top} q e = subst (λ (x : Kind). Returning w ws ls plan g v top (word_of x)) e q
+
 -- WHICH EVENT a free move is
 module _ {w ws ls : List ℕ} {plan : Plan} {g : Compact} where
   pub turn_occurs : {v top kind : ℕ} → Returning w ws ls plan g v top kind → kind ≡ 7 → (next : Compact) → Occurs w ws ls plan g next (Turn top)
@@ -243,6 +266,13 @@ module _ {w ws ls : List ℕ} {plan : Plan} {g : Compact} {seat : Seat} {start a
   both_rises h (plain x (dry i q d)) next e = cc
   both_rises h (plain x (Opened.full i j q d)) next e = cc
   both_rises h (plain x (opens i j q d)) next e = omega (arith, ap transitions_of (sym e ∙ d))
+
+  pub both_continues : plan.birth ≡ false → {ws' : List ℕ} {o : Step} → OpenedBoth ws ws' ls plan (full g) seat o → Continues g o
+  unfolding Continues
+  both_continues h (born x u) = absurd (true≢false (sym x ∙ h))
+  both_continues h (plain x (dry i q d)) = rw d tt
+  both_continues h (plain x (Opened.full i j q d)) = rw d tt
+  both_continues h (plain x (opens i j q d)) = rw d (omega (arith, t.calm.starts.paced.since))
 
   pub leaf_stepped : tag < 2 → {o : Step} → o ≡ transited plan (full g) seat (Ret (leaf_at w at ls 0)) → Stepped w ws ls plan (full g) ws ls o
   unfolding node_of

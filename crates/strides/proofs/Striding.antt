@@ -41,10 +41,10 @@ use Rattle.moves.proofs.Returning.{top as frame-top, tag_here as frame-tag}
 use Rattle.compact.specs.declared.Compact.{Compact}
 use Rattle.compact.specs.declared.Progress.{Progress}
 use Rattle.compact.specs.declared.Progress.TheVariants.{Go, Value}
-use Rattle.compact.specs.Compact.{full, step_of, PacedBy, settled_of, Settles, kept_by, Transits, later_of, Roomy}
+use Rattle.compact.specs.Compact.{full, step_of, PacedBy, settled_of, Settles, kept_by, Transits, later_of, Roomy, Paced, Continues}
 use Rattle.compact.proofs.Keeping.{kept_ticks}
 use Rattle.strides.specs.Strides.{Many, one, many, Strides, Starts, Calm, Tagged, Evaluating, code_of, Jump, Half, Rebound, Rebounds, Returning}
-use Rattle.strides.proofs.Settling.{small, move_advances, move_settles, move_strides, paid_rises, kept_strides, returning_returns, site_stands}
+use Rattle.strides.proofs.Settling.{small, move_advances, move_settles, move_strides, paid_rises, kept_strides, returning_returns, site_stands, paid_continues}
 
 module _ {w ws ls : List ℕ} {plan : Plan} {g : Compact} (s : Starts w ws ls plan g) where
   abbrev K : CostAlgebra
@@ -249,6 +249,11 @@ pub paid_strides : {w ws ls : List ℕ} {plan : Plan} {g : Compact} {v top kind 
 paid_strides {w} {ws} {ls} {plan} {g} {v} {top} {kind} q low s e ws' ls' o m r u =
     let n : Stepped w ws ls plan (full g) ws' ls' o = rw e at m in
     move_strides q.calm ws' ls' o n (paid_rises w ws ls plan (full g) v top kind (returning_returns q refl) low ws' ls' o n) r u
+
+pub paid_goes_on : {w ws ls : List ℕ} {plan : Plan} {g : Compact} {v top kind : ℕ} (q : Returning w ws ls plan g v top kind) → kind < 7 → (s : Registers) → s ≡ full g
+    → (ws' ls' : List ℕ) (o : Step) → Stepped w ws ls plan s ws' ls' o → Paced plan g × Settles plan o × Continues g o
+paid_goes_on {w} {ws} {ls} {plan} {g} {v} {top} {kind} q low s e ws' ls' o m =
+    (q.calm.starts.paced, settles q.calm s e ws' ls' o m, paid_continues w ws ls plan g v top kind (returning_returns q refl) low q.calm.starts.paced.since ws' ls' o (rw e at m))
 
 -- by the same machine
 pub ticks_strides : {w ws ls : List ℕ} {plan : Plan} {g : Compact} {v top kind : ℕ} (q : Returning w ws ls plan g v top kind) (s : Registers) → s ≡ full g

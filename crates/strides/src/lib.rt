@@ -10,6 +10,7 @@
 ghost use Rattle.std.specs.Prelude.{◌≡◌, None, cond, ◌+◌, ◌*◌, ◌/◌, ◌<◌, ◌≤◌, length, get_or, eqb};
 ghost use Rattle.table.specs.Words.{arity_at};
 ghost use Rattle.moves.specs.Ready.{Framed, Operand, Paid};
+ghost use Rattle.moves.specs.Layout.{word_of};
 ghost use Rattle.compact.specs.Compact.{full, later_of, Small, Paced};
 ghost use Rattle.operands.specs.Operands.{cost_at, leaf_at, LeafAt};
 ghost use Rattle.strides.specs.Strides.{body_of, Strides, Frees, Awaits, Passes, Ends, Starts, Calm, Tagged, Evaluating, Jumps, Paired, Led, Calls, OrOpened, Rebounds, Returning};
@@ -265,7 +266,7 @@ fn evaluate_both(site: Site, ws: &mut [u64], locals: &[u64], plan: Plan, g: Comp
         return Progress::Paused(Pause::Fork(site.seat));
     }
     let step = moves::evaluate_both(ws, locals, plan, compact::expand(g), site.seat);
-    compact::settle(plan, step)
+    compact::go_on(plan, g, step)
 }
 
 // A constant or a local: its value returns.
@@ -357,6 +358,39 @@ fn ret_left(
     compact::keep(g, step)
 }
 
+// A value returns by a transition, to a frame that is not a promoted fork.
+fn ret_paid(
+    job: Job,
+    ws: &mut [u64],
+    locals: &mut [u64],
+    plan: Plan,
+    g: Compact,
+    v: u64,
+    top: usize,
+    kind: Kind,
+) -> Progress
+    requires { (Returning job.words.now ws.old locals.old plan g v top (word_of kind)) × (word_of kind < 7) × (Paid plan (full g)) }
+    ensures { Strides job.entry.words.now ws.old locals.old plan g ws.new locals.new result }
+{
+    let s = compact::expand(g);
+    match kind {
+        Kind::LeftOperand => ret_left(job, ws, locals, plan, g, v, top),
+        Kind::RightOperand => compact::keep(
+            g,
+            moves::ret_right_operand(job, ws, locals, plan, s, v, top),
+        ),
+        Kind::Condition => compact::keep(g, moves::ret_condition(job, ws, locals, plan, s, v, top)),
+        Kind::Binding => compact::keep(g, moves::ret_binding(job, ws, locals, plan, s, v, top)),
+        Kind::Argument => compact::keep(g, moves::ret_argument(job, ws, locals, plan, s, v, top)),
+        Kind::PlainLeft => compact::go_on(
+            plan,
+            g,
+            moves::ret_plain_left(job, ws, locals, plan, s, v, top),
+        ),
+        _ => compact::keep(g, moves::ret_plain_right(job, ws, locals, plan, s, v, top)),
+    }
+}
+
 // A value returns to the newest frame, or ends the run. At a promoted fork it arrives with no transition.
 fn ret(job: Job, ws: &mut [u64], locals: &mut [u64], plan: Plan, g: Compact, v: u64) -> Progress
     requires { (Calm job.words.now ws.old locals.old plan g) × (g.control ≡ Control.Ret v) × (Paid plan (full g)) }
@@ -366,26 +400,13 @@ fn ret(job: Job, ws: &mut [u64], locals: &mut [u64], plan: Plan, g: Compact, v: 
         return Progress::Value(v);
     }
     let top = g.depth - 1;
-    let s = compact::expand(g);
-    match moves::kind_of(ws, top) {
-        Kind::LeftOperand => ret_left(job, ws, locals, plan, g, v, top),
-        Kind::RightOperand => compact::keep(
-            g,
-            moves::ret_right_operand(job, ws, locals, plan, s, v, top),
-        ),
-        Kind::Condition => compact::keep(g, moves::ret_condition(job, ws, locals, plan, s, v, top)),
-        Kind::Binding => compact::keep(g, moves::ret_binding(job, ws, locals, plan, s, v, top)),
-        Kind::Argument => compact::keep(g, moves::ret_argument(job, ws, locals, plan, s, v, top)),
-        Kind::PlainLeft => compact::settle(
-            plan,
-            moves::ret_plain_left(job, ws, locals, plan, s, v, top),
-        ),
-        Kind::PlainRight => compact::keep(
-            g,
-            moves::ret_plain_right(job, ws, locals, plan, s, v, top),
-        ),
+    let kind = moves::kind_of(ws, top);
+    if !kind.promoted() {
+        return ret_paid(job, ws, locals, plan, g, v, top, kind);
+    }
+    match kind {
         Kind::PromotedLeft => Progress::Paused(Pause::Turn(v, top)),
-        Kind::PromotedRight => Progress::Paused(Pause::Join(v, top)),
+        _ => Progress::Paused(Pause::Join(v, top)),
     }
 }
 
